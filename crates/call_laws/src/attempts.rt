@@ -1,4 +1,5 @@
-//! Attempts of a call, one after another: the order that they leave, the updates that failures took away, and the snapshots.
+//! Attempts of a call, one after another: the order that they leave, the updates that failures took
+//! away, and the snapshots.
 mod examples;
 mod laws;
 

@@ -1,4 +1,5 @@
-//! What a run with failures says of the lists that it leaves: laws from the attempts of a call, and from the events of a cluster, to them.
+//! What a run with failures says of the lists that it leaves: laws from the attempts of a call, and
+//! from the events of a cluster, to them.
 
 mod laws;
 

@@ -1,4 +1,5 @@
-//! What happens in a cluster in the course of a call are attempts of the call, one after another, with locks and with colours.
+//! What happens in a cluster in the course of a call are attempts of the call, one after another,
+//! with locks and with colours.
 mod laws;
 
 pub use laws::{courses_are_attempts, records_are_held};

@@ -1,4 +1,5 @@
-//! What a snapshot that is due brings: of the graph alone, each edge in one section, and tickets within the budget.
+//! What a snapshot that is due brings: of the graph alone, each edge in one section, and tickets
+//! within the budget.
 
 mod examples;
 mod laws;

@@ -1,4 +1,5 @@
-//! What a cluster does from the opening of a call on: the call's attempts, their windows, their snapshots and their end.
+//! What a cluster does from the opening of a call on: the call's attempts, their windows, their
+//! snapshots and their end.
 mod examples;
 mod laws;
 

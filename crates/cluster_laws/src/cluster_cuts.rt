@@ -1,6 +1,7 @@
-//! A snapshot that runs as an update saves a consistent cut: where a record may be made, the sections that have come hold the
-//! numbers of a replay, that of the first updates of each vertex in the order so far, and these are a valid order by themselves.
-//! Of the scopes it is used only that they exclude one another.
+//! A snapshot that runs as an update saves a consistent cut: where a record may be made, the
+//! sections that have come hold the numbers of a replay, that of the first updates of each vertex
+//! in the order so far, and these are a valid order by themselves. Of the scopes it is used only
+//! that they exclude one another.
 
 mod examples;
 mod laws;

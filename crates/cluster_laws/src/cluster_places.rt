@@ -1,5 +1,6 @@
-//! Scopes of updates exclude one another: each is in one place and holds just the locks of that place, whatever happens; and
-//! where vertices run by colours, those of one step have no neighbours among them.
+//! Scopes of updates exclude one another: each is in one place and holds just the locks of that
+//! place, whatever happens; and where vertices run by colours, those of one step have no neighbours
+//! among them.
 
 mod examples;
 mod laws;

@@ -1,5 +1,6 @@
-//! Where scopes take locks a cluster is coherent whatever happens: each scope in its place, copies true, numbers those of one valid
-//! order. So what happens there is serial, and what it does from a start to an end is an attempt of a call.
+//! Where scopes take locks a cluster is coherent whatever happens: each scope in its place, copies
+//! true, numbers those of one valid order. So what happens there is serial, and what it does from a
+//! start to an end is an attempt of a call.
 
 mod laws;
 

@@ -1,4 +1,5 @@
-//! An update of a vertex whose scope lies on one machine, made at once, is a run of actions of the cluster.
+//! An update of a vertex whose scope lies on one machine, made at once, is a run of actions of the
+//! cluster.
 
 mod laws;
 

@@ -1,5 +1,5 @@
-//! A cluster that takes snapshots, on one thread: its machines with the links between them, and its coordinator. Whatever happens in it,
-//! each acknowledged snapshot is a consistent cut.
+//! A cluster that takes snapshots, on one thread: its machines with the links between them, and its
+//! coordinator. Whatever happens in it, each acknowledged snapshot is a consistent cut.
 
 mod clusters;
 mod events;

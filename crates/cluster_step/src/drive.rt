@@ -1,5 +1,5 @@
-//! Drives an attempt of a call on a cluster that takes snapshots: rounds in which each machine has its turn, until something is to be
-//! done that events of the cluster alone don't do.
+//! Drives an attempt of a call on a cluster that takes snapshots: rounds in which each machine has
+//! its turn, until something is to be done that events of the cluster alone don't do.
 
 mod asking;
 mod driving;

@@ -1,4 +1,5 @@
-//! The cluster: its machines, its links and its coordinator, event by event, and the rounds of a run.
+//! The cluster: its machines, its links and its coordinator, event by event, and the rounds of a
+//! run.
 #![tactic(auto)]
 
 pub mod clusters;

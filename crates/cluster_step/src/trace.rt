@@ -1,4 +1,5 @@
-//! The course of a call on a cluster that takes snapshots: what happens follows the failures that the job orders, and makes a call.
+//! The course of a call on a cluster that takes snapshots: what happens follows the failures that
+//! the job orders, and makes a call.
 
 mod courses;
 mod failing;

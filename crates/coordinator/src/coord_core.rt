@@ -1,4 +1,5 @@
-//! The coordinator of a cluster: it puts steps and waves out, counts what machines answer, begins snapshots and records them, and finds the end.
+//! The coordinator of a cluster: it puts steps and waves out, counts what machines answer, begins
+//! snapshots and records them, and finds the end.
 
 mod asking;
 mod leading;

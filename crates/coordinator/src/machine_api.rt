@@ -1,4 +1,5 @@
-//! What a cluster that takes snapshots knows of its machines: their calls, and what each promises in the words of the cluster's law.
+//! What a cluster that takes snapshots knows of its machines: their calls, and what each promises
+//! in the words of the cluster's law.
 
 mod machines;
 

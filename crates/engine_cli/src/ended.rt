@@ -7,7 +7,8 @@ use gl_base::Entry;
 #[derive(Drop)]
 pub struct Ended {
     pub status: Status,
-    /// The updates that count, by ascending ticket, those of earlier runs of the store among them, and the restarts between them.
+    /// The updates that count, by ascending ticket, those of earlier runs of the store among them,
+    /// and the restarts between them.
     pub order: Vec<Entry>,
     /// The updates of this run that a recovery took away, by ascending ticket.
     pub lost: Vec<Entry>,

@@ -19,7 +19,8 @@ use graph_core::Graph;
 use std::alloc::Global;
 use std::sync::Wait;
 
-/// Runs the job's algorithm on the graph, which is cut so, without a store. A machine that fails takes all back to the start.
+/// Runs the job's algorithm on the graph, which is cut so, without a store. A machine that fails
+/// takes all back to the start.
 pub fn run_without_store<R: Wait>(
     rt: &R,
     alloc: Global,
@@ -34,7 +35,8 @@ pub fn run_without_store<R: Wait>(
     requires numbers { HasNumbers (job_view job.now).fields }
     requires failures { AreJobFailures job.now.machines job.now.failures.items }
     requires few { length job.now.failures.items ≤ 64 }
-    ensures run { IfOk result (λ run. RunsWithoutStore (job_view job.now) graph.now cut.now run job.now.failures.items) }
+    ensures run { IfOk result (λ run.
+        RunsWithoutStore (job_view job.now) graph.now cut.now run job.now.failures.items) }
     ensures machines { IfOk result (HasNamedMachines (job_view job.now) graph.now cut.now) }
     ensures ended { IfOk result (λ run. IsEndAlone run.end) }
     ensures printable { IfOk result (IsPrintable graph.now) }

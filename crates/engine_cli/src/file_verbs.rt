@@ -1,4 +1,5 @@
-//! The verbs that do their work on files alone: `make` writes a graph, `cut` the index and the atoms of one, and `init` a store.
+//! The verbs that do their work on files alone: `make` writes a graph, `cut` the index and the
+//! atoms of one, and `init` a store.
 ghost use Rattle.std.specs.Prelude.{◌≡◌, ◌≤◌, List, ℕ};
 ghost use Rattle.gl_base.specs.declared.jobs.MakePlan.{MakePlan};
 ghost use Rattle.job_io.specs.declared.job_words.words.Words.TheVariants.{Cut, Init, Make};
@@ -18,13 +19,15 @@ use job_io::job_stores::{header_of, make_store};
 use job_io::job_words::Words;
 use std::alloc::Global;
 
-/// Does what a command line asks whose verb is neither `run` nor `resume`, as `engine` does it, and writes nothing to `out`. `make`
-/// writes the vertex text and the edge text of the plan's graph to the files PREFIX.v and PREFIX.e. `cut` reads the job and
-/// the graph that it names, cuts the graph into as many atoms as the job has, and writes the index and each atom to the files
-/// PREFIX.index, PREFIX.0.atom, PREFIX.1.atom, .. at the job's prefix for atoms. Where one of these two is refused each of its files is
-/// what it was, or holds a front of its bytes. `init` reads the job and the graph that it names, and makes the job's store of a
-/// file that is missing or has no bytes; any other is refused by `NotEmpty`, and stays as it is. After `DiskFault` a file that had no
-/// bytes may have any.
+/// Does what a command line asks whose verb is neither `run` nor `resume`, as `engine` does it, and
+/// writes nothing to `out`. `make` writes the vertex text and the edge text of the plan's graph to
+/// the files PREFIX.v and PREFIX.e. `cut` reads the job and the graph that it names, cuts the graph
+/// into as many atoms as the job has, and writes the index and each atom to the files PREFIX.index,
+/// PREFIX.0.atom, PREFIX.1.atom, .. at the job's prefix for atoms. Where one of these two is
+/// refused each of its files is what it was, or holds a front of its bytes. `init` reads the job
+/// and the graph that it names, and makes the job's store of a file that is missing or has no
+/// bytes; any other is refused by `NotEmpty`, and stays as it is. After `DiskFault` a file that had
+/// no bytes may have any.
 pub fn files_only<F: Files, K: Sink, N: Sink>(
     alloc: Global,
     words: &Words,
@@ -36,12 +39,16 @@ pub fn files_only<F: Files, K: Sink, N: Sink>(
     requires verb { IsOfFiles words.now }
     ensures make { (prefix : List ℕ) (plan : MakePlan) → words.now ≡ Make prefix plan →
         IsMaking prefix plan (F.state files.old) (F.state files.new) result }
-    ensures cut { (file : List ℕ) → words.now ≡ Cut file → IsCutting file (F.state files.old) (F.state files.new) result }
-    ensures init { (file : List ℕ) → words.now ≡ Init file → IsInit F.disks_told file (F.state files.old) (F.state files.new) result }
+    ensures cut { (file : List ℕ) → words.now ≡ Cut file →
+        IsCutting file (F.state files.old) (F.state files.new) result }
+    ensures init { (file : List ℕ) → words.now ≡ Init file →
+        IsInit F.disks_told file (F.state files.old) (F.state files.new) result }
     ensures reads { (F.state files.old).sources.faults ≤ (F.state files.new).sources.faults }
     ensures later { (F.state files.old).sinks.faults ≤ (F.state files.new).sinks.faults }
     ensures untouched { out.new ≡ out.old }
-    ensures note { IsRefusal result → WritesNote (note_of result) (N.held note.old) (N.held note.new) (N.faults note.old) (N.faults note.new) }
+    ensures note { IsRefusal result →
+        WritesNote (note_of result) (N.held note.old) (N.held note.new)
+        (N.faults note.old) (N.faults note.new) }
     ensures done { result ≡ Done → note.new ≡ note.old }
     ensures notes { N.faults note.old ≤ N.faults note.new }
     ensures same_note { N.same note.old note.new }

@@ -19,7 +19,8 @@ const USAGE: &str =
 /// Writes why a call was refused, and hands on the status. A fault of `note` is passed over.
 pub fn refuse<N: Sink>(note: &mut N, status: Status) -> Status
     ensures status { result ≡ status }
-    ensures note { WritesNote (note_of result) (N.held note.old) (N.held note.new) (N.faults note.old) (N.faults note.new) }
+    ensures note { WritesNote (note_of result) (N.held note.old) (N.held note.new)
+        (N.faults note.old) (N.faults note.new) }
     ensures later { N.faults note.old ≤ N.faults note.new }
     ensures same { N.same note.old note.new }
 {
@@ -29,7 +30,8 @@ pub fn refuse<N: Sink>(note: &mut N, status: Status) -> Status
 
 /// Writes one line for the status, and nothing for `Done`.
 fn tell<N: Sink>(note: &mut N, status: &Status) -> Result<(), Failed>
-    ensures note { WritesAll result (note_of status.now) (N.held note.old) (N.held note.new) (N.faults note.old) (N.faults note.new) }
+    ensures note { WritesAll result (note_of status.now) (N.held note.old) (N.held note.new)
+        (N.faults note.old) (N.faults note.new) }
     ensures later { N.faults note.old ≤ N.faults note.new }
     ensures same { N.same note.old note.new }
 {
@@ -51,7 +53,8 @@ fn tell<N: Sink>(note: &mut N, status: &Status) -> Result<(), Failed>
 
 /// Writes why a job was refused.
 fn tell_job<N: Sink>(note: &mut N, fault: &JobFault) -> Result<(), Failed>
-    ensures note { WritesAll result (job_note fault.now) (N.held note.old) (N.held note.new) (N.faults note.old) (N.faults note.new) }
+    ensures note { WritesAll result (job_note fault.now) (N.held note.old) (N.held note.new)
+        (N.faults note.old) (N.faults note.new) }
     ensures later { N.faults note.old ≤ N.faults note.new }
     ensures same { N.same note.old note.new }
 {
@@ -68,7 +71,8 @@ fn tell_job<N: Sink>(note: &mut N, fault: &JobFault) -> Result<(), Failed>
 
 /// Writes a text and the key that it is about.
 fn tell_key<N: Sink>(note: &mut N, text: &str, key: Key) -> Result<(), Failed>
-    ensures note { WritesAll result (joined (text.now ∷ key_name key ∷ codes "\n" ∷ [])) (N.held note.old) (N.held note.new) (N.faults note.old) (N.faults note.new) }
+    ensures note { WritesAll result (joined (text.now ∷ key_name key ∷ codes "\n" ∷ []))
+        (N.held note.old) (N.held note.new) (N.faults note.old) (N.faults note.new) }
     ensures later { N.faults note.old ≤ N.faults note.new }
     ensures same { N.same note.old note.new }
 {
@@ -77,7 +81,8 @@ fn tell_key<N: Sink>(note: &mut N, text: &str, key: Key) -> Result<(), Failed>
 
 /// Writes which key's value is out of its range.
 fn tell_range<N: Sink>(note: &mut N, key: Key, value: u64) -> Result<(), Failed>
-    ensures note { WritesAll result (job_note (OutOfRange key value)) (N.held note.old) (N.held note.new) (N.faults note.old) (N.faults note.new) }
+    ensures note { WritesAll result (job_note (OutOfRange key value)) (N.held note.old)
+        (N.held note.new) (N.faults note.old) (N.faults note.new) }
     ensures later { N.faults note.old ≤ N.faults note.new }
     ensures same { N.same note.old note.new }
 {
@@ -88,7 +93,8 @@ fn tell_range<N: Sink>(note: &mut N, key: Key, value: u64) -> Result<(), Failed>
 
 /// Writes why a graph text was refused, and where.
 fn tell_graph<N: Sink>(note: &mut N, fault: TextFault) -> Result<(), Failed>
-    ensures note { WritesAll result (graph_note fault) (N.held note.old) (N.held note.new) (N.faults note.old) (N.faults note.new) }
+    ensures note { WritesAll result (graph_note fault) (N.held note.old) (N.held note.new)
+        (N.faults note.old) (N.faults note.new) }
     ensures later { N.faults note.old ≤ N.faults note.new }
     ensures same { N.same note.old note.new }
 {
@@ -103,7 +109,8 @@ fn tell_graph<N: Sink>(note: &mut N, fault: TextFault) -> Result<(), Failed>
 
 /// Writes why the files of a cut were refused, and where.
 fn tell_atoms<N: Sink>(note: &mut N, fault: AtomsFault) -> Result<(), Failed>
-    ensures note { WritesAll result (atoms_note fault) (N.held note.old) (N.held note.new) (N.faults note.old) (N.faults note.new) }
+    ensures note { WritesAll result (atoms_note fault) (N.held note.old) (N.held note.new)
+        (N.faults note.old) (N.faults note.new) }
     ensures later { N.faults note.old ≤ N.faults note.new }
     ensures same { N.same note.old note.new }
 {
@@ -132,7 +139,8 @@ fn kind_name(kind: AtomsKind) -> &'static str
 
 /// Writes why a store was refused.
 fn tell_store<N: Sink>(note: &mut N, fault: &StoreFault) -> Result<(), Failed>
-    ensures note { WritesAll result (store_note fault.now) (N.held note.old) (N.held note.new) (N.faults note.old) (N.faults note.new) }
+    ensures note { WritesAll result (store_note fault.now) (N.held note.old) (N.held note.new)
+        (N.faults note.old) (N.faults note.new) }
     ensures later { N.faults note.old ≤ N.faults note.new }
     ensures same { N.same note.old note.new }
 {
@@ -149,7 +157,8 @@ fn tell_store<N: Sink>(note: &mut N, fault: &StoreFault) -> Result<(), Failed>
 
 /// Writes how many snapshots and bytes a store has that has no room.
 fn tell_full<N: Sink>(note: &mut N, stored: u32, length: u64) -> Result<(), Failed>
-    ensures note { WritesAll result (full_note stored length) (N.held note.old) (N.held note.new) (N.faults note.old) (N.faults note.new) }
+    ensures note { WritesAll result (full_note stored length) (N.held note.old) (N.held note.new)
+        (N.faults note.old) (N.faults note.new) }
     ensures later { N.faults note.old ≤ N.faults note.new }
     ensures same { N.same note.old note.new }
 {
@@ -165,7 +174,8 @@ fn tell_full<N: Sink>(note: &mut N, stored: u32, length: u64) -> Result<(), Fail
 
 /// Writes a text and a number.
 fn tell_number<N: Sink>(note: &mut N, text: &str, number: u64) -> Result<(), Failed>
-    ensures note { WritesAll result (joined (text.now ∷ decimal number ∷ codes "\n" ∷ [])) (N.held note.old) (N.held note.new) (N.faults note.old) (N.faults note.new) }
+    ensures note { WritesAll result (joined (text.now ∷ decimal number ∷ codes "\n" ∷ []))
+        (N.held note.old) (N.held note.new) (N.faults note.old) (N.faults note.new) }
     ensures later { N.faults note.old ≤ N.faults note.new }
     ensures same { N.same note.old note.new }
 {
@@ -176,7 +186,8 @@ fn tell_number<N: Sink>(note: &mut N, text: &str, number: u64) -> Result<(), Fai
 
 /// Writes that a store is for other machines.
 fn tell_machines<N: Sink>(note: &mut N, kept: u16, given: u16) -> Result<(), Failed>
-    ensures note { WritesAll result (store_note (Machines kept given)) (N.held note.old) (N.held note.new) (N.faults note.old) (N.faults note.new) }
+    ensures note { WritesAll result (store_note (Machines kept given)) (N.held note.old)
+        (N.held note.new) (N.faults note.old) (N.faults note.new) }
     ensures later { N.faults note.old ≤ N.faults note.new }
     ensures same { N.same note.old note.new }
 {
@@ -189,7 +200,8 @@ fn tell_machines<N: Sink>(note: &mut N, kept: u16, given: u16) -> Result<(), Fai
 
 /// Writes a text.
 fn write_text<N: Sink>(note: &mut N, text: &str) -> Result<(), Failed>
-    ensures note { WritesAll result text.now (N.held note.old) (N.held note.new) (N.faults note.old) (N.faults note.new) }
+    ensures note { WritesAll result text.now (N.held note.old) (N.held note.new)
+        (N.faults note.old) (N.faults note.new) }
     ensures later { N.faults note.old ≤ N.faults note.new }
     ensures same { N.same note.old note.new }
 {
@@ -199,7 +211,8 @@ fn write_text<N: Sink>(note: &mut N, text: &str) -> Result<(), Failed>
 
 /// Writes a line of two texts.
 fn write_line<N: Sink>(note: &mut N, text: &str, word: &str) -> Result<(), Failed>
-    ensures note { WritesAll result (joined (text.now ∷ word.now ∷ codes "\n" ∷ [])) (N.held note.old) (N.held note.new) (N.faults note.old) (N.faults note.new) }
+    ensures note { WritesAll result (joined (text.now ∷ word.now ∷ codes "\n" ∷ []))
+        (N.held note.old) (N.held note.new) (N.faults note.old) (N.faults note.new) }
     ensures later { N.faults note.old ≤ N.faults note.new }
     ensures same { N.same note.old note.new }
 {
@@ -208,7 +221,9 @@ fn write_line<N: Sink>(note: &mut N, text: &str, word: &str) -> Result<(), Faile
 
 /// Writes these texts, one after another.
 fn write_texts<N: Sink>(note: &mut N, texts: &[&str]) -> Result<(), Failed>
-    ensures note { WritesAll result (joined (map (λ t. t.now) texts.now)) (N.held note.old) (N.held note.new) (N.faults note.old) (N.faults note.new) }
+    ensures note { WritesAll result (joined (map (λ t.
+        t.now) texts.now)) (N.held note.old) (N.held note.new)
+        (N.faults note.old) (N.faults note.new) }
     ensures later { N.faults note.old ≤ N.faults note.new }
     ensures same { N.same note.old note.new }
 {

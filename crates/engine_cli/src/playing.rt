@@ -8,7 +8,11 @@ use placement::plans::RunPlan;
 
 /// How the job's program is run on its graph.
 pub fn plan_of(job: &Job) -> RunPlan
-    ensures { result ≡ record { machines = job.now.machines; pipeline = job.now.pipeline; budget = job.now.budget } }
+    ensures { result ≡ record {
+      machines = job.now.machines;
+      pipeline = job.now.pipeline;
+      budget = job.now.budget;
+    } }
 {
     RunPlan {
         machines: job.machines,

@@ -20,9 +20,10 @@ use graph_text::sync_folds::Fold;
 use job_io::whole_files::write_file;
 use std::alloc::Global;
 
-/// Writes the order of a run to the file that the job names for it, and then prints a line for each vertex: its identifier
-/// and the number at its place. The report of the answer is handed back. All memory is taken before anything is
-/// written, so that want of it leaves files and `out` as they were.
+/// Writes the order of a run to the file that the job names for it, and then prints a line for each
+/// vertex: its identifier and the number at its place. The report of the answer is handed back. All
+/// memory is taken before anything is written, so that want of it leaves files and `out` as they
+/// were.
 pub fn print_run<F: Files, K: Sink>(
     alloc: Global,
     files: &mut F,
@@ -32,11 +33,14 @@ pub fn print_run<F: Files, K: Sink>(
 ) -> Result<Vec<u8>, Writing>
     requires numbers { length prepared.now.run.numbers.items ≡ size prepared.now.graph }
     requires entries { All (IsEntryOf prepared.now.graph) prepared.now.run.order.items }
-    ensures printed { Prints result (job_view prepared.now.job).fields.order (printed_of is_reported prepared.now)
+    ensures printed { Prints result (job_view prepared.now.job).fields.order
+        (printed_of is_reported prepared.now)
         (moment (F.state files.old) (K.faults out.old) (K.held out.old))
         (moment (F.state files.new) (K.faults out.new) (K.held out.new)) }
-    ensures no_memory { result ≡ Err NoMemoryAtOut → (out.new ≡ out.old) × ((F.state files.new).contents ≡ (F.state files.old).contents) }
-    ensures wrote { WritesFiles (order_names (job_view prepared.now.job).fields.order) (F.state files.old) (F.state files.new) }
+    ensures no_memory { result ≡ Err NoMemoryAtOut → (out.new ≡ out.old) ×
+        ((F.state files.new).contents ≡ (F.state files.old).contents) }
+    ensures wrote { WritesFiles (order_names (job_view prepared.now.job).fields.order)
+        (F.state files.old) (F.state files.new) }
     ensures faults { K.faults out.old ≤ K.faults out.new }
     ensures same { K.same out.old out.new }
 {
@@ -59,7 +63,8 @@ fn report_of(
     text: &[u8],
     is_reported: bool,
 ) -> Result<Vec<u8>, NoMemory>
-    ensures { IfOk result (λ report. report.items ≡ report_of is_reported graph.now numbers.now text.now) }
+    ensures { IfOk result (λ report.
+        report.items ≡ report_of is_reported graph.now numbers.now text.now) }
 {
     if !is_reported {
         return Ok(Vec::new(alloc));

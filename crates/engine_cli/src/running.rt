@@ -39,8 +39,8 @@ pub struct Prepared {
     pub run: StoredRun,
 }
 
-/// Reads the job and its graph, runs the job's algorithm, from the job's store and into it where it names one, and writes the order of
-/// its updates and the numbers of the vertices.
+/// Reads the job and its graph, runs the job's algorithm, from the job's store and into it where it
+/// names one, and writes the order of its updates and the numbers of the vertices.
 pub fn run_job<R: Wait, F: Files, K: Sink>(
     rt: &R,
     alloc: Global,
@@ -51,7 +51,8 @@ pub fn run_job<R: Wait, F: Files, K: Sink>(
     out: &mut K,
 ) -> RunEnd
     requires { IsOfRun asked }
-    ensures run { IsRun F.disks_told asked file.now is_reported (moment (F.state files.old) (K.faults out.old) (K.held out.old))
+    ensures run { IsRun F.disks_told asked file.now is_reported
+        (moment (F.state files.old) (K.faults out.old) (K.held out.old))
         (moment (F.state files.new) (K.faults out.new) (K.held out.new))
         (λ report. result.report.items ≡ report) (lists_of_call result.ended) result.ended.status }
     ensures quiet { is_reported ≡ false → result.report.items ≡ [] }
@@ -84,11 +85,15 @@ fn prepare<R: Wait, F: Files>(
     files: &mut F,
 ) -> Result<Prepared, Status>
     requires { IsOfRun asked }
-    ensures answer { IsPrepared F.disks_told asked (F.state files.old) (F.state files.new) file.now result }
+    ensures answer { IsPrepared F.disks_told asked (F.state files.old)
+        (F.state files.new) file.now result }
     ensures frame { ChangesInput (F.state files.old) (F.state files.new) }
-    ensures early { IfErr result (λ status. IsBeforeMaking status → ChangesSources (F.state files.old) (F.state files.new)) }
+    ensures early { IfErr result (λ status. IsBeforeMaking status →
+        ChangesSources (F.state files.old) (F.state files.new)) }
     ensures handed { HandsForRun asked (F.state files.old) (F.state files.new) file.now }
-    ensures refused { IfErr result (λ status. IsRefusedInput status → HandsOver (F.state files.old).sources.names (F.state files.new).sources.names (names_of asked (F.state files.old) file.now)) }
+    ensures refused { IfErr result (λ status. IsRefusedInput status →
+        HandsOver (F.state files.old).sources.names (F.state files.new).sources.names
+        (names_of asked (F.state files.old) file.now)) }
     ensures used { UsesStore asked file.now (F.state files.old) (F.state files.new) }
     ensures later { (F.state files.old).sources.faults ≤ (F.state files.new).sources.faults }
 {
@@ -112,9 +117,12 @@ fn run_input<R: Wait, F: Files>(
     input: &Input,
 ) -> Result<StoredRun, NoStore>
     requires { IsRunnable input.now }
-    ensures made { IfOk result (IsMadeRun F.disks_told asked input.now (F.state files.old) (F.state files.new)) }
+    ensures made { IfOk result
+        (IsMadeRun F.disks_told asked input.now (F.state files.old) (F.state files.new)) }
     ensures printable { IfOk result (IsPrintable input.now.graph) }
-    ensures refused { IfErr result (IsWhyNoneMade F.disks_told asked input.now (F.state files.old) (F.state files.new) input.now.job.store) }
+    ensures refused { IfErr result
+        (IsWhyNoneMade F.disks_told asked input.now (F.state files.old)
+        (F.state files.new) input.now.job.store) }
     ensures used { UsesNamed input.now.job.store (F.state files.old) (F.state files.new) }
 {
     match &input.job.store {

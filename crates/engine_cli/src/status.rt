@@ -16,7 +16,8 @@ pub enum Status {
     Done,
     /// The words are not those of a command.
     Usage(UsageFault),
-    /// The job is refused: its bytes are no job, it lacks a key that the verb needs, or its source is no vertex of the graph.
+    /// The job is refused: its bytes are no job, it lacks a key that the verb needs, or its source
+    /// is no vertex of the graph.
     BadJob(JobFault),
     /// A graph text is refused.
     BadGraph(TextFault),
@@ -28,11 +29,13 @@ pub enum Status {
     WriteFault,
     /// The store could not be read or written.
     DiskFault,
-    /// The store is refused: its bytes are none of one for the job and its graph, `run` finds snapshots in it, or `init` bytes in its file.
+    /// The store is refused: its bytes are none of one for the job and its graph, `run` finds
+    /// snapshots in it, or `init` bytes in its file.
     BadStore(StoreFault),
     /// So many updates were made as the job's budget has, and this vertex is a task all the same.
     BudgetSpent { left: Vertex },
-    /// A snapshot is needed, and the store, which has so many snapshots and bytes, has no room for it.
+    /// A snapshot is needed, and the store, which has so many snapshots and bytes, has no room for
+    /// it.
     SnapshotsFull { stored: u32, length: u64 },
     /// There was not enough memory.
     NoMemory,

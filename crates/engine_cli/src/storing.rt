@@ -32,9 +32,10 @@ use store::snap_journal::{Journal, JournalFault};
 use store::store_format::StoreFault;
 use update_api::Program;
 
-/// Opens the job's store in the file of this name, and runs the job's algorithm from it and into it. `BadStore` comes where its bytes are
-/// none of a store for this job and graph, and, unless the run is resumed, by `Used` where it has snapshots. A store in form that no call leaves
-/// may be refused too, at the byte where it ends.
+/// Opens the job's store in the file of this name, and runs the job's algorithm from it and into
+/// it. `BadStore` comes where its bytes are none of a store for this job and graph, and, unless the
+/// run is resumed, by `Used` where it has snapshots. A store in form that no call leaves may be
+/// refused too, at the byte where it ends.
 pub fn run_on_store<R: Wait, F: Files>(
     rt: &R,
     alloc: Global,
@@ -44,8 +45,12 @@ pub fn run_on_store<R: Wait, F: Files>(
     resumed: bool,
 ) -> Result<StoredRun, NoStore>
     requires { IsRunnable input.now }
-    ensures run { IfOk result (IsRunIntoStore F.disks_told resumed name.now input.now (F.state files.old) (F.state files.new)) }
-    ensures refused { IfErr result (IsWhyNoStoredRun F.disks_told resumed name.now input.now (F.state files.old) (F.state files.new)) }
+    ensures run { IfOk result
+        (IsRunIntoStore F.disks_told resumed name.now input.now
+        (F.state files.old) (F.state files.new)) }
+    ensures refused { IfErr result
+        (IsWhyNoStoredRun F.disks_told resumed name.now input.now
+        (F.state files.old) (F.state files.new)) }
     ensures printable { IfOk result (IsPrintable input.now.graph) }
     ensures used { UsesDisk name.now (F.state files.old) (F.state files.new) }
 {
@@ -65,8 +70,8 @@ pub fn run_on_store<R: Wait, F: Files>(
     made
 }
 
-/// Opens the store on a disk, and runs the job's algorithm from it and into it. `made` gets the run or why there is none, and the disk is
-/// handed back.
+/// Opens the store on a disk, and runs the job's algorithm from it and into it. `made` gets the run
+/// or why there is none, and the disk is handed back.
 fn run_on_disk<R: Wait, D: Disk>(
     rt: &R,
     alloc: Global,
@@ -76,10 +81,15 @@ fn run_on_disk<R: Wait, D: Disk>(
     made: &mut Result<StoredRun, NoStore>,
 ) -> D
     requires { IsRunnable input.now }
-    ensures run { IsTrue D.told → IfOk made.new (RunsOnStore resumed (job_view input.now.job) input.now.graph input.now.cut (D.past disk) (D.past result)) }
-    ensures fault { IfOk made.new (λ run. run.end ≡ DiskFault → Rose (D.faults disk) (D.faults result)) }
+    ensures run { IsTrue D.told →
+        IfOk made.new (RunsOnStore resumed (job_view input.now.job) input.now.graph input.now.cut
+        (D.past disk) (D.past result)) }
+    ensures fault { IfOk made.new (λ run. run.end ≡ DiskFault →
+        Rose (D.faults disk) (D.faults result)) }
     ensures printable { IfOk made.new (IsPrintable input.now.graph) }
-    ensures refused { IfErr made.new (IsWhyNotOnDisk (IsTrue D.told) resumed (job_view input.now.job) input.now.graph input.now.cut (D.past disk) (D.past result) (D.faults disk) (D.faults result)) }
+    ensures refused { IfErr made.new
+        (IsWhyNotOnDisk (IsTrue D.told) resumed (job_view input.now.job) input.now.graph
+        input.now.cut (D.past disk) (D.past result) (D.faults disk) (D.faults result)) }
     ensures same { D.same disk result }
     ensures later { D.faults disk ≤ D.faults result }
 {
@@ -96,7 +106,8 @@ fn run_on_disk<R: Wait, D: Disk>(
     }
 }
 
-/// Runs the job's algorithm from an opened store and into it, which has no snapshots unless the run is resumed.
+/// Runs the job's algorithm from an opened store and into it, which has no snapshots unless the run
+/// is resumed.
 fn run_on_journal<R: Wait, D: Disk>(
     rt: &R,
     alloc: Global,
@@ -108,13 +119,22 @@ fn run_on_journal<R: Wait, D: Disk>(
     requires graph { IsHeaderOf input.now.graph journal.old.header }
     requires machines { journal.old.header.machines ≡ input.now.job.machines }
     requires well { journal.old.failed ≡ false }
-    ensures fresh { IsTrue D.told → IfOk result (λ run. resumed ≡ false → length (snapshots_in D.past journal.old) ≡ 0) }
-    ensures run { IsTrue D.told → IfOk result (IsStoreRunFrom (job_view input.now.job) input.now.graph input.now.cut (update_of input.now.job.algorithm input.now.job.source) journal.old.header true input.now.job.window resumed
-        (length (snapshots_in D.past journal.old)) (snapshots_in D.past journal.old) (D.past journal.old.disk) (D.past journal.new.disk)) }
-    ensures fault { IfOk result (λ run. run.end ≡ DiskFault → Rose (D.faults journal.old.disk) (D.faults journal.new.disk)) }
+    ensures fresh { IsTrue D.told →
+        IfOk result (λ run. resumed ≡ false → length (snapshots_in D.past journal.old) ≡ 0) }
+    ensures run { IsTrue D.told →
+        IfOk result (IsStoreRunFrom (job_view input.now.job) input.now.graph input.now.cut
+        (update_of input.now.job.algorithm input.now.job.source) journal.old.header true
+        input.now.job.window resumed
+        (length (snapshots_in D.past journal.old)) (snapshots_in D.past journal.old)
+        (D.past journal.old.disk) (D.past journal.new.disk)) }
+    ensures fault { IfOk result (λ run. run.end ≡ DiskFault →
+        Rose (D.faults journal.old.disk) (D.faults journal.new.disk)) }
     ensures printable { IfOk result (IsPrintable input.now.graph) }
-    ensures refused { IfErr result (IsWhyNotOnJournal (IsTrue D.told) resumed (job_view input.now.job) input.now.graph input.now.cut (update_of input.now.job.algorithm input.now.job.source) journal.old.header
-        (snapshots_in D.past journal.old) (D.past journal.old.disk) (D.past journal.new.disk) (D.faults journal.old.disk) (D.faults journal.new.disk)) }
+    ensures refused { IfErr result
+        (IsWhyNotOnJournal (IsTrue D.told) resumed (job_view input.now.job) input.now.graph
+        input.now.cut (update_of input.now.job.algorithm input.now.job.source) journal.old.header
+        (snapshots_in D.past journal.old) (D.past journal.old.disk) (D.past journal.new.disk)
+        (D.faults journal.old.disk) (D.faults journal.new.disk)) }
     ensures same { D.same journal.old.disk journal.new.disk }
     ensures later { D.faults journal.old.disk ≤ D.faults journal.new.disk }
 {
@@ -140,8 +160,8 @@ fn run_on_journal<R: Wait, D: Disk>(
     }
 }
 
-/// Runs the job's algorithm by its program on the graph, which is cut so, with snapshots as this window asks, and one of the end where that
-/// is saved.
+/// Runs the job's algorithm by its program on the graph, which is cut so, with snapshots as this
+/// window asks, and one of the end where that is saved.
 fn run_stored_on<R: Wait, D: Disk>(
     rt: &R,
     alloc: Global,
@@ -162,12 +182,19 @@ fn run_stored_on<R: Wait, D: Disk>(
     requires machines { journal.old.header.machines ≡ job.now.machines }
     requires fresh { resumed ≡ false → journal.old.count ≡ 0 }
     requires well { journal.old.failed ≡ false }
-    ensures run { IsTrue D.told → IfOk result (IsStoreRunFrom (job_view job.now) graph.now cut.now (update_of job.now.algorithm job.now.source) journal.old.header saves_end window resumed
-        journal.old.count (snapshots_in D.past journal.old) (D.past journal.old.disk) (D.past journal.new.disk)) }
-    ensures fault { IfOk result (λ run. run.end ≡ DiskFault → Rose (D.faults journal.old.disk) (D.faults journal.new.disk)) }
+    ensures run { IsTrue D.told →
+        IfOk result (IsStoreRunFrom (job_view job.now) graph.now cut.now
+        (update_of job.now.algorithm job.now.source) journal.old.header saves_end window resumed
+        journal.old.count (snapshots_in D.past journal.old) (D.past journal.old.disk)
+        (D.past journal.new.disk)) }
+    ensures fault { IfOk result (λ run. run.end ≡ DiskFault →
+        Rose (D.faults journal.old.disk) (D.faults journal.new.disk)) }
     ensures printable { IfOk result (IsPrintable graph.now) }
-    ensures refused { IfErr result (IsWhyNoneStored (IsTrue D.told) (job_view job.now) graph.now cut.now (update_of job.now.algorithm job.now.source) journal.old.header
-        (snapshots_in D.past journal.old) (D.past journal.old.disk) (D.past journal.new.disk) (D.faults journal.old.disk) (D.faults journal.new.disk)) }
+    ensures refused { IfErr result
+        (IsWhyNoneStored (IsTrue D.told) (job_view job.now) graph.now cut.now
+        (update_of job.now.algorithm job.now.source) journal.old.header
+        (snapshots_in D.past journal.old) (D.past journal.old.disk) (D.past journal.new.disk)
+        (D.faults journal.old.disk) (D.faults journal.new.disk)) }
     ensures same { D.same journal.old.disk journal.new.disk }
     ensures later { D.faults journal.old.disk ≤ D.faults journal.new.disk }
 {
@@ -177,8 +204,8 @@ fn run_stored_on<R: Wait, D: Disk>(
     )
 }
 
-/// Runs a program on the graph, which is cut so, by the numbers of the job and its failures, with snapshots as this window asks, and one of
-/// the end where that is saved.
+/// Runs a program on the graph, which is cut so, by the numbers of the job and its failures, with
+/// snapshots as this window asks, and one of the end where that is saved.
 fn run_stored_by<R: Wait, D: Disk, P: Program>(
     rt: &R,
     alloc: Global,
@@ -200,12 +227,19 @@ fn run_stored_by<R: Wait, D: Disk, P: Program>(
     requires machines { journal.old.header.machines ≡ job.now.machines }
     requires fresh { resumed ≡ false → journal.old.count ≡ 0 }
     requires well { journal.old.failed ≡ false }
-    ensures run { IsTrue D.told → IfOk result (IsStoreRunFrom (job_view job.now) graph.now cut.now (P.meaning program) journal.old.header saves_end window resumed
-        journal.old.count (snapshots_in D.past journal.old) (D.past journal.old.disk) (D.past journal.new.disk)) }
-    ensures fault { IfOk result (λ run. run.end ≡ DiskFault → Rose (D.faults journal.old.disk) (D.faults journal.new.disk)) }
+    ensures run { IsTrue D.told →
+        IfOk result (IsStoreRunFrom (job_view job.now) graph.now cut.now (P.meaning program)
+        journal.old.header saves_end window resumed
+        journal.old.count (snapshots_in D.past journal.old) (D.past journal.old.disk)
+        (D.past journal.new.disk)) }
+    ensures fault { IfOk result (λ run. run.end ≡ DiskFault →
+        Rose (D.faults journal.old.disk) (D.faults journal.new.disk)) }
     ensures printable { IfOk result (IsPrintable graph.now) }
-    ensures refused { IfErr result (IsWhyNoneStored (IsTrue D.told) (job_view job.now) graph.now cut.now (P.meaning program) journal.old.header
-        (snapshots_in D.past journal.old) (D.past journal.old.disk) (D.past journal.new.disk) (D.faults journal.old.disk) (D.faults journal.new.disk)) }
+    ensures refused { IfErr result
+        (IsWhyNoneStored (IsTrue D.told) (job_view job.now) graph.now cut.now
+        (P.meaning program) journal.old.header
+        (snapshots_in D.past journal.old) (D.past journal.old.disk) (D.past journal.new.disk)
+        (D.faults journal.old.disk) (D.faults journal.new.disk)) }
     ensures same { D.same journal.old.disk journal.new.disk }
     ensures later { D.faults journal.old.disk ≤ D.faults journal.new.disk }
 {
@@ -243,7 +277,8 @@ fn not_opened(fault: OpenFault) -> NoStore
     }
 }
 
-/// Why no run came from an open store of so many bytes. One that is not as calls leave it is bad where it ends.
+/// Why no run came from an open store of so many bytes. One that is not as calls leave it is bad
+/// where it ends.
 fn why_not_run_from(fault: JournalFault, length: u64) -> NoStore
     ensures { result ≡ no_store_of_run fault length }
 {

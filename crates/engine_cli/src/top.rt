@@ -26,20 +26,25 @@ use std::sync::Wait;
 /// Does what the words after the program's name ask.
 ///
 /// `run JOB` reads the job in the file JOB and the graph that it names, runs the job's algorithm on it, on as many machines as the
-/// job has, and prints to `out`, for each vertex by ascending identifier, its identifier and its number: its level from the job's source, the
-/// least identifier in its component, its distance from the source, or a colour. Where the job names a file for the order
-/// of the updates, that is written before `out`. With `--report` the report goes to `note`. `make PREFIX ..` writes a graph
-/// to the files PREFIX.v and PREFIX.e. `cut JOB` cuts the job's graph into atoms and writes the index and the atoms at the job's
-/// prefix for them; where `run`'s job has such a prefix, the files there are looked at before the run. `init JOB` makes the job's
-/// store, a file without snapshots. Where `run`'s job names a store, that is to have no snapshots; the run puts snapshots into it as it goes on, and
-/// where a machine fails that the job lets fail, all machines go back to the last one. `resume JOB` does the same as `run`, and goes on from the last
-/// snapshot that the store has.
+/// job has, and prints to `out`, for each vertex by ascending identifier, its identifier and its
+/// number: its level from the job's source, the least identifier in its component, its distance
+/// from the source, or a colour. Where the job names a file for the order of the updates, that is
+/// written before `out`. With `--report` the report goes to `note`. `make PREFIX ..` writes a graph
+/// to the files PREFIX.v and PREFIX.e. `cut JOB` cuts the job's graph into atoms and writes the
+/// index and the atoms at the job's prefix for them; where `run`'s job has such a prefix, the files
+/// there are looked at before the run. `init JOB` makes the job's store, a file without snapshots.
+/// Where `run`'s job names a store, that is to have no snapshots; the run puts snapshots into it as
+/// it goes on, and where a machine fails that the job lets fail, all machines go back to the last
+/// one. `resume JOB` does the same as `run`, and goes on from the last snapshot that the store has.
 ///
-/// The words are refused first, then the job's file, what it says, a key that the verb needs, the vertex file, the edge file, a source that
-/// is no vertex, the index and the atoms, the store, and a run that left a task; then the order's file and `out` are written, and last one line to `note` for every status but `Done`. A fault of `note` is passed over. `gate` is not passed yet.
+/// The words are refused first, then the job's file, what it says, a key that the verb needs, the
+/// vertex file, the edge file, a source that is no vertex, the index and the atoms, the store, and
+/// a run that left a task; then the order's file and `out` are written, and last one line to `note`
+/// for every status but `Done`. A fault of `note` is passed over. `gate` is not passed yet.
 ///
-/// The lists tell of the run where one was made: at `Done`, `WriteFault`, `BudgetSpent`, `SnapshotsFull`, and at `DiskFault` where that came in the
-/// run. Else they are empty. A run on several machines goes on until its end is seen, and no clause says that it is.
+/// The lists tell of the run where one was made: at `Done`, `WriteFault`, `BudgetSpent`,
+/// `SnapshotsFull`, and at `DiskFault` where that came in the run. Else they are empty. A run on
+/// several machines goes on until its end is seen, and no clause says that it is.
 pub fn engine<R: Wait, F: Files, K: Sink, N: Sink, G: Gate + Sync>(
     rt: &R,
     alloc: Global,
@@ -52,19 +57,26 @@ pub fn engine<R: Wait, F: Files, K: Sink, N: Sink, G: Gate + Sync>(
     requires { length words.now < 4294967295 }
 
     // What the verb leaves, by each status.
-    ensures verb { (asked : Words) → IsCommandLine (texts words.now) asked → IsCall F.disks_told asked (moment (F.state files.old) (K.faults out.old) (K.held out.old))
+    ensures verb { (asked : Words) → IsCommandLine (texts words.now) asked →
+        IsCall F.disks_told asked (moment (F.state files.old) (K.faults out.old) (K.held out.old))
         (moment (F.state files.new) (K.faults out.new) (K.held out.new))
-        (λ report. WritesNote report (N.held note.old) (N.held note.new) (N.faults note.old) (N.faults note.new)) result }
-    ensures files_only { (asked : Words) → IsCommandLine (texts words.now) asked → IsOfFiles asked → out.new ≡ out.old }
+        (λ report. WritesNote report (N.held note.old) (N.held note.new) (N.faults note.old)
+        (N.faults note.new)) result }
+    ensures files_only { (asked : Words) → IsCommandLine (texts words.now) asked →
+        IsOfFiles asked → out.new ≡ out.old }
 
     // Other words.
     ensures usage { (fault : UsageFault) → command_line_of (texts words.now) ≡ Err fault →
-        ((result.status ≡ Usage fault) ⊎ (result.status ≡ NoMemory)) × (files.new ≡ files.old) × (out.new ≡ out.old)
+        ((result.status ≡ Usage fault) ⊎ (result.status ≡ NoMemory)) ×
+        (files.new ≡ files.old) × (out.new ≡ out.old)
         × (lists_of_call result ≡ no_lists) }
 
     // What is told of a refusal, and of work that has nothing to tell.
-    ensures note { IsRefusal result.status → WritesNote (note_of result.status) (N.held note.old) (N.held note.new) (N.faults note.old) (N.faults note.new) }
-    ensures quiet { (asked : Words) → IsCommandLine (texts words.now) asked → IsQuiet asked → result.status ≡ Done → note.new ≡ note.old }
+    ensures note { IsRefusal result.status →
+        WritesNote (note_of result.status) (N.held note.old) (N.held note.new)
+        (N.faults note.old) (N.faults note.new) }
+    ensures quiet { (asked : Words) → IsCommandLine (texts words.now) asked → IsQuiet asked →
+        result.status ≡ Done → note.new ≡ note.old }
 
     // What stays.
     ensures untouched { IsBeforeWriting result.status → out.new ≡ out.old }
@@ -92,11 +104,15 @@ fn do_command<R: Wait, F: Files, K: Sink, N: Sink>(
     note: &mut N,
 ) -> Ended
     requires { IsAsked asked.now }
-    ensures verb { IsCall F.disks_told asked.now (moment (F.state files.old) (K.faults out.old) (K.held out.old))
+    ensures verb { IsCall F.disks_told asked.now
+        (moment (F.state files.old) (K.faults out.old) (K.held out.old))
         (moment (F.state files.new) (K.faults out.new) (K.held out.new))
-        (λ report. WritesNote report (N.held note.old) (N.held note.new) (N.faults note.old) (N.faults note.new)) result }
+        (λ report. WritesNote report (N.held note.old) (N.held note.new) (N.faults note.old)
+        (N.faults note.new)) result }
     ensures files_only { IsOfFiles asked.now → out.new ≡ out.old }
-    ensures note { IsRefusal result.status → WritesNote (note_of result.status) (N.held note.old) (N.held note.new) (N.faults note.old) (N.faults note.new) }
+    ensures note { IsRefusal result.status →
+        WritesNote (note_of result.status) (N.held note.old) (N.held note.new)
+        (N.faults note.old) (N.faults note.new) }
     ensures quiet { IsQuiet asked.now → result.status ≡ Done → note.new ≡ note.old }
     ensures untouched { IsBeforeWriting result.status → out.new ≡ out.old }
     ensures reads { (F.state files.old).sources.faults ≤ (F.state files.new).sources.faults }
@@ -145,10 +161,14 @@ fn run_file<R: Wait, F: Files, K: Sink, N: Sink>(
     note: &mut N,
 ) -> Ended
     requires { IsOfRun asked }
-    ensures run { IsRun F.disks_told asked file.now is_reported (moment (F.state files.old) (K.faults out.old) (K.held out.old))
+    ensures run { IsRun F.disks_told asked file.now is_reported
+        (moment (F.state files.old) (K.faults out.old) (K.held out.old))
         (moment (F.state files.new) (K.faults out.new) (K.held out.new))
-        (λ report. WritesNote report (N.held note.old) (N.held note.new) (N.faults note.old) (N.faults note.new)) (lists_of_call result) result.status }
-    ensures note { IsRefusal result.status → WritesNote (note_of result.status) (N.held note.old) (N.held note.new) (N.faults note.old) (N.faults note.new) }
+        (λ report. WritesNote report (N.held note.old) (N.held note.new) (N.faults note.old)
+        (N.faults note.new)) (lists_of_call result) result.status }
+    ensures note { IsRefusal result.status →
+        WritesNote (note_of result.status) (N.held note.old) (N.held note.new)
+        (N.faults note.old) (N.faults note.new) }
     ensures quiet { is_reported ≡ false → result.status ≡ Done → note.new ≡ note.old }
     ensures untouched { IsBeforeWriting result.status → out.new ≡ out.old }
     ensures reads { (F.state files.old).sources.faults ≤ (F.state files.new).sources.faults }
@@ -184,7 +204,8 @@ fn run_file<R: Wait, F: Files, K: Sink, N: Sink>(
 /// Writes what is reported of an answer that was printed. A fault of `note` is passed over.
 fn tell_report<N: Sink>(note: &mut N, report: &[u8]) -> Status
     ensures status { result ≡ Done }
-    ensures note { WritesNote report.now (N.held note.old) (N.held note.new) (N.faults note.old) (N.faults note.new) }
+    ensures note { WritesNote report.now (N.held note.old) (N.held note.new)
+        (N.faults note.old) (N.faults note.new) }
     ensures quiet { report.now ≡ [] → note.new ≡ note.old }
     ensures later { N.faults note.old ≤ N.faults note.new }
     ensures same { N.same note.old note.new }

@@ -1,4 +1,5 @@
-//! The snapshot that is due is put into the journal of a store, and acknowledged in the course of a call only then.
+//! The snapshot that is due is put into the journal of a store, and acknowledged in the course of a
+//! call only then.
 
 mod adding;
 mod faults;

@@ -7,8 +7,9 @@ use placed_machines::engine_savers::EngineSaver;
 use recovery::restarts::Restarts;
 use update_api::Program;
 
-/// A call in its course: where its graph is placed, the restarts of the store's last order and of that with which the newest attempt began,
-/// that order, the updates that failures took away, the snapshots that were acknowledged, and whether one is taken of the end.
+/// A call in its course: where its graph is placed, the restarts of the store's last order and of
+/// that with which the newest attempt began, that order, the updates that failures took away, the
+/// snapshots that were acknowledged, and whether one is taken of the end.
 #[derive(Drop)]
 pub(crate) struct StoredCall<P: Program> {
     pub(crate) course: Course<EngineSaver<P>>,

@@ -17,7 +17,8 @@ use store::snap_journal::{Journal, JournalFault};
 use store::store_format::StoreFault;
 use update_api::Program;
 
-/// All machines go back, where one has reached the count of a failure. A fault of the disk ends the run.
+/// All machines go back, where one has reached the count of a failure. A fault of the disk ends the
+/// run.
 pub(crate) fn go_back_from<D: Disk, P: Program>(
     alloc: Global,
     graph: &Graph,
@@ -26,14 +27,23 @@ pub(crate) fn go_back_from<D: Disk, P: Program>(
     journal: &mut Journal<D>,
 ) -> Result<Option<StoredEnd>, JournalFault>
     requires can { CanCallGoOn graph.now call.old journal.old }
-    requires reached { (m : MachineNo) × PausesSo (IsEngineSaverOf P.meaning) call.old.course (pause.Reached m) }
-    ensures keeps { IsTrue D.told → KeepsCall P.meaning D.past graph.now (P.meaning program) call.old journal.old call.new journal.new }
-    ensures ends { IsTrue D.told → IfOk result (λ end. IfSome end (EndsCall P.meaning D.past graph.now (P.meaning program) call.old journal.old call.new journal.new)) }
-    ensures by { IfOk result (λ end. IfSome end (EndsBy journal.new (D.faults journal.old.disk) (D.faults journal.new.disk))) }
+    requires reached { (m : MachineNo) ×
+        PausesSo (IsEngineSaverOf P.meaning) call.old.course (pause.Reached m) }
+    ensures keeps { IsTrue D.told →
+        KeepsCall P.meaning D.past graph.now (P.meaning program) call.old
+        journal.old call.new journal.new }
+    ensures ends { IsTrue D.told →
+        IfOk result (λ end. IfSome end
+        (EndsCall P.meaning D.past graph.now (P.meaning program) call.old journal.old
+        call.new journal.new)) }
+    ensures by { IfOk result (λ end.
+        IfSome end (EndsBy journal.new (D.faults journal.old.disk) (D.faults journal.new.disk))) }
     ensures on { IfOk result (λ end. end ≡ None → CanCallGoOn graph.now call.new journal.new) }
-    ensures short { IfOk result (λ end. end ≡ None → journal.old.length ≤ 2 ^ 30 → journal.new.length ≤ 2 ^ 30) }
+    ensures short { IfOk result (λ end. end ≡ None → journal.old.length ≤ 2 ^ 30 →
+        journal.new.length ≤ 2 ^ 30) }
     ensures refused { IfErr result IsWhyStopped }
-    ensures good { IsTrue D.told → (st : Setting) → IsNotRefused P.meaning D.past call.old journal.old st result }
+    ensures good { IsTrue D.told → (st : Setting) →
+        IsNotRefused P.meaning D.past call.old journal.old st result }
     ensures call { IsSameCall call.old call.new }
     ensures header { journal.new.header ≡ journal.old.header }
     ensures same { D.same journal.old.disk journal.new.disk }
@@ -60,8 +70,8 @@ pub(crate) fn go_back_from<D: Disk, P: Program>(
     }
 }
 
-/// What becomes of a run that could not go back, with a store of so many bytes. A store that is so long that its length with the restarts that it
-/// lacks can't be told is refused.
+/// What becomes of a run that could not go back, with a store of so many bytes. A store that is so
+/// long that its length with the restarts that it lacks can't be told is refused.
 fn end_without(why: JournalFault, length: u64) -> Result<Option<StoredEnd>, JournalFault>
     ensures is { result ≡ end_without why length }
     ensures end { IfOk result (λ end. (end ≡ Some ending.DiskFault) × (why ≡ fault.DiskFault)) }
@@ -74,7 +84,8 @@ fn end_without(why: JournalFault, length: u64) -> Result<Option<StoredEnd>, Jour
     }
 }
 
-/// The snapshot that is due is added to the store. A store that has no room for it ends the run, and so does a fault of the disk.
+/// The snapshot that is due is added to the store. A store that has no room for it ends the run,
+/// and so does a fault of the disk.
 pub(crate) fn save_due<D: Disk, P: Program>(
     alloc: Global,
     call: &mut StoredCall<P>,
@@ -84,16 +95,23 @@ pub(crate) fn save_due<D: Disk, P: Program>(
     requires running { call.old.course.now.stopped ≡ false }
     requires restarts { Begins call.old.restarts.stored.items call.old.restarts.front.items }
     requires due { (k : ℕ) × PausesSo (IsEngineSaverOf P.meaning) call.old.course (pause.Record k) }
-    ensures keeps { IsTrue D.told → (start : List (List ℕ)) (first : DiskPast) (st : Setting) (o : CallOpening) →
-        IsCallAt P.meaning D.past call.old journal.old start first st o → IsCallAt P.meaning D.past call.new journal.new start first st o }
-    ensures ends { IsTrue D.told → IfOk result (λ end. IfSome end (λ how. (start : List (List ℕ)) (first : DiskPast) (st : Setting) (o : CallOpening) →
-        IsCallAt P.meaning D.past call.old journal.old start first st o → IsCallEnded P.meaning D.past call.new journal.new start first st o how)) }
-    ensures by { IfOk result (λ end. IfSome end (EndsBy journal.new (D.faults journal.old.disk) (D.faults journal.new.disk))) }
+    ensures keeps { IsTrue D.told →
+        (start : List (List ℕ)) (first : DiskPast) (st : Setting) (o : CallOpening) →
+        IsCallAt P.meaning D.past call.old journal.old start first st o →
+        IsCallAt P.meaning D.past call.new journal.new start first st o }
+    ensures ends { IsTrue D.told →
+        IfOk result (λ end. IfSome end (λ how.
+        (start : List (List ℕ)) (first : DiskPast) (st : Setting) (o : CallOpening) →
+        IsCallAt P.meaning D.past call.old journal.old start first st o →
+        IsCallEnded P.meaning D.past call.new journal.new start first st o how)) }
+    ensures by { IfOk result (λ end.
+        IfSome end (EndsBy journal.new (D.faults journal.old.disk) (D.faults journal.new.disk))) }
     ensures well { IfOk result (λ end. end ≡ None → journal.new.failed ≡ false) }
     ensures restarts { Begins call.new.restarts.stored.items call.new.restarts.front.items }
     ensures short { IfOk result (λ end. end ≡ None → journal.new.length ≤ 2 ^ 30) }
     ensures refused { IfErr result IsWhyStopped }
-    ensures good { IsTrue D.told → (st : Setting) → IsNotRefused P.meaning D.past call.old journal.old st result }
+    ensures good { IsTrue D.told → (st : Setting) →
+        IsNotRefused P.meaning D.past call.old journal.old st result }
     ensures call { IsSameCall call.old call.new }
     ensures header { journal.new.header ≡ journal.old.header }
     ensures same { D.same journal.old.disk journal.new.disk }
@@ -101,7 +119,8 @@ pub(crate) fn save_due<D: Disk, P: Program>(
 {
     call.snapshots.reserve(1)?;
     let added = append_due(alloc, &mut call.course, journal, &mut call.restarts);
-    // The reader tells how many snapshots the store has, and that whatever a crash now leaves has them.
+    // The reader tells how many snapshots the store has, and that whatever a crash now leaves has
+    // them.
     let _stored = journal.count();
     let length = journal.length();
     match added {

@@ -1,4 +1,5 @@
-//! A graph that is cut and placed has one placement, and a store is good by whatever owners agree: laws of the owners of vertices.
+//! A graph that is cut and placed has one placement, and a store is good by whatever owners agree:
+//! laws of the owners of vertices.
 
 mod laws;
 

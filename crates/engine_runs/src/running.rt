@@ -29,12 +29,14 @@ use store::snap_journal::{Journal, JournalFault};
 use store::store_format::StoreFault;
 use update_api::Program;
 
-/// Runs a program on the graph, which is cut so, from what the store has to the end of the run. Machines fail as the failures order, and all
-/// go back to the last snapshot that was acknowledged; snapshots are taken as the window asks, and where the plan says so one of the end. Where
-/// it resumes, the run goes on from the order of the store's last snapshot, behind which stands a restart; else the store has no snapshot yet.
+/// Runs a program on the graph, which is cut so, from what the store has to the end of the run.
+/// Machines fail as the failures order, and all go back to the last snapshot that was acknowledged;
+/// snapshots are taken as the window asks, and where the plan says so one of the end. Where it
+/// resumes, the run goes on from the order of the store's last snapshot, behind which stands a
+/// restart; else the store has no snapshot yet.
 ///
-/// The run ends finished, at its budget, at a store that is full, or at a fault of the disk while it goes on. `DiskFault` comes where the
-/// disk failed before the run began.
+/// The run ends finished, at its budget, at a store that is full, or at a fault of the disk while
+/// it goes on. `DiskFault` comes where the disk failed before the run began.
 pub fn run_stored<R: Wait, D: Disk, P: Program>(
     rt: &R,
     alloc: Global,
@@ -56,45 +58,80 @@ pub fn run_stored<R: Wait, D: Disk, P: Program>(
     requires fresh { resumed ≡ false → journal.old.count ≡ 0 }
     requires well { journal.old.failed ≡ false }
 
-    // From a store that is good by the owners that the placement gives: what the run is, and what crashes leave.
-    ensures run { IsTrue D.told → IfOk result (λ run. (owner : ℕ → ℕ) → IsPlacement graph.now cut.now plan.run.machines owner →
-        IsGoodStore (owned_shared graph.now (P.meaning program) owner failures.now) journal.old.header (snapshots_in D.past journal.old) →
-        (snapshots : List (List Entry)) × IsStoredRun plan.saves_end (owned_shared graph.now (P.meaning program) owner failures.now) plan.run.machines plan.window plan.run.budget journal.old.count
+    // From a store that is good by the owners that the placement gives: what the run is, and what
+    // crashes leave.
+    ensures run { IsTrue D.told →
+        IfOk result (λ run. (owner : ℕ → ℕ) →
+        IsPlacement graph.now cut.now plan.run.machines owner →
+        IsGoodStore (owned_shared graph.now (P.meaning program) owner failures.now)
+        journal.old.header (snapshots_in D.past journal.old) →
+        (snapshots : List (List Entry)) ×
+        IsStoredRun plan.saves_end (owned_shared graph.now (P.meaning program) owner failures.now)
+        plan.run.machines plan.window plan.run.budget journal.old.count
         (stored_order (snapshots_in D.past journal.old)) resumed snapshots run
-        × KeepsGood (owned_shared graph.now (P.meaning program) owner failures.now) journal.old.header (snapshots_in D.past journal.old) snapshots (D.past journal.old.disk) (D.past journal.new.disk)) }
+        × KeepsGood (owned_shared graph.now (P.meaning program) owner failures.now)
+        journal.old.header (snapshots_in D.past journal.old) snapshots (D.past journal.old.disk)
+        (D.past journal.new.disk)) }
 
-    // From such a store it is a run of machines that the plan asks for: of its kind of engine, with its pipeline.
-    ensures engine { IsTrue D.told → IfOk result (λ run. (owner : ℕ → ℕ) → IsPlacement graph.now cut.now plan.run.machines owner →
-        IsGoodStore (owned_shared graph.now (P.meaning program) owner failures.now) journal.old.header (snapshots_in D.past journal.old) →
+    // From such a store it is a run of machines that the plan asks for: of its kind of engine, with
+    // its pipeline.
+    ensures engine { IsTrue D.told →
+        IfOk result (λ run. (owner : ℕ → ℕ) →
+        IsPlacement graph.now cut.now plan.run.machines owner →
+        IsGoodStore (owned_shared graph.now (P.meaning program) owner failures.now)
+        journal.old.header (snapshots_in D.past journal.old) →
         IsRunBy graph.now cut.now (P.meaning program) plan failures.now (lists_of run)) }
 
-    // From such a store, that is as long as one may grow or shorter, no run is refused for the store or a record: memory ran out, or the disk failed before the run began.
-    ensures good { IsTrue D.told → (owner : ℕ → ℕ) → IsPlacement graph.now cut.now plan.run.machines owner →
-        IsGoodStore (owned_shared graph.now (P.meaning program) owner failures.now) journal.old.header (snapshots_in D.past journal.old) → journal.old.length ≤ 2 ^ 30 →
+    // From such a store, that is as long as one may grow or shorter, no run is refused for the
+    // store or a record: memory ran out, or the disk failed before the run began.
+    ensures good { IsTrue D.told → (owner : ℕ → ℕ) →
+        IsPlacement graph.now cut.now plan.run.machines owner →
+        IsGoodStore (owned_shared graph.now (P.meaning program) owner failures.now)
+        journal.old.header (snapshots_in D.past journal.old) → journal.old.length ≤ 2 ^ 30 →
         (why : StoreFault) → IsErrOf result (fault.BadStore why) → ⊥ }
 
-    // And its budget is not spent, where each attempt has as many tickets as it may need; and the store is not full, where it has room for the run.
-    ensures enough { IsTrue D.told → IfOk result (λ run. (owner : ℕ → ℕ) → IsPlacement graph.now cut.now plan.run.machines owner →
-        IsGoodStore (owned_shared graph.now (P.meaning program) owner failures.now) journal.old.header (snapshots_in D.past journal.old) →
-        (bound : ℕ) → BoundsSteps graph.now (P.meaning program) bound → (1 + length failures.now) * bound ≤ plan.run.budget → (left : Vertex) → run.end ≡ ending.Spent left → ⊥) }
-    ensures roomy { IsTrue D.told → IfOk result (λ run. (owner : ℕ → ℕ) → IsPlacement graph.now cut.now plan.run.machines owner →
-        IsGoodStore (owned_shared graph.now (P.meaning program) owner failures.now) journal.old.header (snapshots_in D.past journal.old) →
-        HasRoomForRun graph.now plan (length failures.now) journal.old.count journal.old.length → (stored long : ℕ) → run.end ≡ ending.Full stored long → ⊥) }
+    // And its budget is not spent, where each attempt has as many tickets as it may need; and the
+    // store is not full, where it has room for the run.
+    ensures enough { IsTrue D.told →
+        IfOk result (λ run. (owner : ℕ → ℕ) →
+        IsPlacement graph.now cut.now plan.run.machines owner →
+        IsGoodStore (owned_shared graph.now (P.meaning program) owner failures.now)
+        journal.old.header (snapshots_in D.past journal.old) →
+        (bound : ℕ) → BoundsSteps graph.now (P.meaning program) bound →
+        (1 + length failures.now) * bound ≤ plan.run.budget → (left : Vertex) →
+        run.end ≡ ending.Spent left → ⊥) }
+    ensures roomy { IsTrue D.told →
+        IfOk result (λ run. (owner : ℕ → ℕ) →
+        IsPlacement graph.now cut.now plan.run.machines owner →
+        IsGoodStore (owned_shared graph.now (P.meaning program) owner failures.now)
+        journal.old.header (snapshots_in D.past journal.old) →
+        HasRoomForRun graph.now plan (length failures.now) journal.old.count journal.old.length →
+        (stored long : ℕ) → run.end ≡ ending.Full stored long → ⊥) }
 
     // So it finishes, or memory runs out, where the disk does not fail.
-    ensures complete { IsTrue D.told → (owner : ℕ → ℕ) → IsPlacement graph.now cut.now plan.run.machines owner →
-        IsGoodStore (owned_shared graph.now (P.meaning program) owner failures.now) journal.old.header (snapshots_in D.past journal.old) →
-        (bound : ℕ) → BoundsSteps graph.now (P.meaning program) bound → (1 + length failures.now) * bound ≤ plan.run.budget →
-        HasRoomForRun graph.now plan (length failures.now) journal.old.count journal.old.length → (Rose (D.faults journal.old.disk) (D.faults journal.new.disk) → ⊥) → IsFinishedOrNoMemory result }
+    ensures complete { IsTrue D.told → (owner : ℕ → ℕ) →
+        IsPlacement graph.now cut.now plan.run.machines owner →
+        IsGoodStore (owned_shared graph.now (P.meaning program) owner failures.now)
+        journal.old.header (snapshots_in D.past journal.old) →
+        (bound : ℕ) → BoundsSteps graph.now (P.meaning program) bound →
+        (1 + length failures.now) * bound ≤ plan.run.budget →
+        HasRoomForRun graph.now plan (length failures.now) journal.old.count journal.old.length →
+        (Rose (D.faults journal.old.disk) (D.faults journal.new.disk) → ⊥) →
+        IsFinishedOrNoMemory result }
 
     // The graph is placed for it, in the one way that there is.
-    ensures placed { IfOk result (λ run. (owner : ℕ → ℕ) × IsPlacement graph.now cut.now plan.run.machines owner) }
+    ensures placed { IfOk result (λ run. (owner : ℕ → ℕ) ×
+        IsPlacement graph.now cut.now plan.run.machines owner) }
 
-    ensures by { IfOk result (λ run. EndsBy journal.new (D.faults journal.old.disk) (D.faults journal.new.disk) run.end) }
+    ensures by { IfOk result (λ run.
+        EndsBy journal.new (D.faults journal.old.disk) (D.faults journal.new.disk) run.end) }
     ensures numbers { IfOk result (λ run. length run.numbers.items ≡ size graph.now) }
     ensures entries { IfOk result (λ run. All (IsEntryOf graph.now) run.order.items) }
-    ensures refused { IfErr result (IsWhyNoRun (IsTrue D.told) (D.past journal.old.disk) (D.past journal.new.disk) (D.faults journal.old.disk) (D.faults journal.new.disk)
-        (KeepsByOwner D.past graph.now (P.meaning program) cut.now plan.run.machines failures.now journal.old journal.new)) }
+    ensures refused { IfErr result
+        (IsWhyNoRun (IsTrue D.told) (D.past journal.old.disk) (D.past journal.new.disk)
+        (D.faults journal.old.disk) (D.faults journal.new.disk)
+        (KeepsByOwner D.past graph.now (P.meaning program) cut.now plan.run.machines failures.now
+        journal.old journal.new)) }
     ensures header { journal.new.header ≡ journal.old.header }
     ensures same { D.same journal.old.disk journal.new.disk }
     ensures later { D.faults journal.old.disk ≤ D.faults journal.new.disk }
@@ -135,14 +172,22 @@ fn begin<D: Disk, P: Program>(
     requires machines { journal.old.header.machines ≡ plan.run.machines }
     requires fresh { resumed ≡ false → journal.old.count ≡ 0 }
     ensures can { IfOk result (λ call. CanCallGoOn graph.now call journal.new) }
-    ensures begun { IsTrue D.told → IfOk result (λ call. (st : Setting) → IsRunAt graph.now (P.meaning program) call.places st →
-        IsGoodStore (shared_of st failures.now) journal.old.header (snapshots_in D.past journal.old) → HasCallBegun P.meaning D.past call journal.old journal.new resumed plan.run.budget st) }
-    ensures setting { IfOk result (λ call. (st : Setting) × IsRunAt graph.now (P.meaning program) call.places st × (shared_of st failures.now ≡ run_shared graph.now (P.meaning program) call.places failures.now)) }
+    ensures begun { IsTrue D.told →
+        IfOk result (λ call. (st : Setting) → IsRunAt graph.now (P.meaning program) call.places st →
+        IsGoodStore (shared_of st failures.now) journal.old.header
+        (snapshots_in D.past journal.old) →
+        HasCallBegun P.meaning D.past call journal.old journal.new resumed plan.run.budget st) }
+    ensures setting { IfOk result (λ call. (st : Setting) ×
+        IsRunAt graph.now (P.meaning program) call.places st ×
+        (shared_of st failures.now ≡ run_shared graph.now (P.meaning program)
+        call.places failures.now)) }
     ensures places { IfOk result (λ call. ArePlacedFor graph.now cut.now plan call.places) }
     ensures failures { IfOk result (λ call. call.course.failures ≡ failures.now) }
     ensures saves { IfOk result (λ call. call.saves_end ≡ plan.saves_end) }
-    ensures refused { IfErr result (IsWhyNotBegun journal.old.failed (D.faults journal.old.disk) (D.faults journal.new.disk)) }
-    ensures good { IsTrue D.told → journal.old.length ≤ 2 ^ 30 → (why : StoreFault) → IsErrOf result (fault.BadStore why) → ⊥ }
+    ensures refused { IfErr result
+        (IsWhyNotBegun journal.old.failed (D.faults journal.old.disk) (D.faults journal.new.disk)) }
+    ensures good { IsTrue D.told → journal.old.length ≤ 2 ^ 30 → (why : StoreFault) →
+        IsErrOf result (fault.BadStore why) → ⊥ }
     ensures long { journal.new.length ≡ journal.old.length }
     ensures past { IsTrue D.told → D.past journal.new.disk ≡ D.past journal.old.disk }
     ensures header { journal.new.header ≡ journal.old.header }
@@ -188,7 +233,8 @@ pub(crate) fn call_of<P: Program>(
     }
 }
 
-/// Why a call did not begin with a store of so many bytes. One that is so long that its length can't be told is refused.
+/// Why a call did not begin with a store of so many bytes. One that is so long that its length
+/// can't be told is refused.
 fn refused_by(why: JournalFault, length: u64) -> JournalFault
     ensures { result ≡ refused_by why length }
 {
@@ -211,15 +257,25 @@ pub(crate) fn gathered<P: Program>(
     requires failures { call.course.failures ≡ failures.now }
     requires few { length failures.now ≤ 65536 }
     requires running { call.course.now.stopped ≡ false }
-    ensures run { IfOk result (λ run. (program : Update) (header : Header) (start added : List (List ℕ)) (st : Setting) (o : CallOpening) → IsRunAt graph.now program call.places st →
-        IsEndAt P.meaning call header start added st o end → IsRunSo call.saves_end st failures.now o start added run) }
-    ensures course { IfOk result (λ run. (program : Update) (header : Header) (start added : List (List ℕ)) (st : Setting) (o : CallOpening) → IsRunAt graph.now program call.places st →
-        (at : IsEndAt P.meaning call header start added st o end) → HasCourseOf failures.now st o at.known.was.events at.known.was.cluster (lists_of run)) }
+    ensures run { IfOk result (λ run.
+        (program : Update) (header : Header) (start added : List (List ℕ)) (st : Setting)
+        (o : CallOpening) → IsRunAt graph.now program call.places st →
+        IsEndAt P.meaning call header start added st o end →
+        IsRunSo call.saves_end st failures.now o start added run) }
+    ensures course { IfOk result (λ run.
+        (program : Update) (header : Header) (start added : List (List ℕ)) (st : Setting)
+        (o : CallOpening) → IsRunAt graph.now program call.places st →
+        (at : IsEndAt P.meaning call header start added st o end) →
+        HasCourseOf failures.now st o at.known.was.events at.known.was.cluster (lists_of run)) }
     ensures end { IfOk result (λ run. run.end ≡ end) }
     ensures numbers { IfOk result (λ run. length run.numbers.items ≡ size graph.now) }
     ensures entries { IfOk result (λ run. All (IsEntryOf graph.now) run.order.items) }
-    ensures other { IfErr result (λ why. (why ≡ fault.NoMemory) ⊎ ((why ≡ fault.BadStore (BadByte long)) × ((program : Update) (header : Header) (start added : List (List ℕ)) (st : Setting) (o : CallOpening) →
-        IsRunAt graph.now program call.places st → IsEndAt P.meaning call header start added st o end → ⊥))) }
+    ensures other { IfErr result (λ why. (why ≡ fault.NoMemory) ⊎
+        ((why ≡ fault.BadStore (BadByte long)) ×
+        ((program : Update) (header : Header) (start added : List (List ℕ))
+        (st : Setting) (o : CallOpening) →
+        IsRunAt graph.now program call.places st →
+        IsEndAt P.meaning call header start added st o end → ⊥))) }
 {
     calls_end_so::<EngineSaver<P>>();
     let StoredCall {
@@ -253,7 +309,15 @@ pub(crate) fn gathered<P: Program>(
 
 /// The run with these lists.
 fn run_of(lists: CallLists, snapshots: Vec<SnapLine>, end: StoredEnd) -> StoredRun
-    ensures { result ≡ record { order = lists.order; lost = lists.lost; done = lists.done; fired = lists.fired; snapshots = snapshots; numbers = lists.numbers; end = end } }
+    ensures { result ≡ record {
+      order = lists.order;
+      lost = lists.lost;
+      done = lists.done;
+      fired = lists.fired;
+      snapshots = snapshots;
+      numbers = lists.numbers;
+      end = end;
+    } }
 {
     StoredRun {
         order: lists.order,

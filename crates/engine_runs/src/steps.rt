@@ -25,11 +25,18 @@ pub(crate) fn play_to_end<R: Wait, D: Disk, P: Program>(
     journal: &mut Journal<D>,
 ) -> Result<StoredEnd, JournalFault>
     requires can { CanCallGoOn graph.now call.old journal.old }
-    ensures keeps { IsTrue D.told → KeepsCall P.meaning D.past graph.now (P.meaning program) call.old journal.old call.new journal.new }
-    ensures ends { IsTrue D.told → IfOk result (EndsCall P.meaning D.past graph.now (P.meaning program) call.old journal.old call.new journal.new) }
-    ensures by { IfOk result (EndsBy journal.new (D.faults journal.old.disk) (D.faults journal.new.disk)) }
+    ensures keeps { IsTrue D.told →
+        KeepsCall P.meaning D.past graph.now (P.meaning program) call.old
+        journal.old call.new journal.new }
+    ensures ends { IsTrue D.told →
+        IfOk result (EndsCall P.meaning D.past graph.now (P.meaning program) call.old
+        journal.old call.new journal.new) }
+    ensures by { IfOk result
+        (EndsBy journal.new (D.faults journal.old.disk) (D.faults journal.new.disk)) }
     ensures refused { IfErr result IsWhyStopped }
-    ensures good { IsTrue D.told → (st : Setting) → IsRunAt graph.now (P.meaning program) call.old.places st → IsNotRefused P.meaning D.past call.old journal.old st result }
+    ensures good { IsTrue D.told → (st : Setting) →
+        IsRunAt graph.now (P.meaning program) call.old.places st →
+        IsNotRefused P.meaning D.past call.old journal.old st result }
     ensures call { IsSameCall call.old call.new }
     ensures header { journal.new.header ≡ journal.old.header }
     ensures same { D.same journal.old.disk journal.new.disk }
@@ -43,8 +50,10 @@ pub(crate) fn play_to_end<R: Wait, D: Disk, P: Program>(
     unreachable!()
 }
 
-/// Goes on to the next pause, and does what is asked there: all go back where a machine has reached the count of a failure, and a snapshot that is
-/// due is added to the store. Says how the run ended, where it has: a store that has as many snapshots as may be ends it before the budget does.
+/// Goes on to the next pause, and does what is asked there: all go back where a machine has reached
+/// the count of a failure, and a snapshot that is due is added to the store. Says how the run
+/// ended, where it has: a store that has as many snapshots as may be ends it before the budget
+/// does.
 fn step<R: Wait, D: Disk, P: Program>(
     rt: &R,
     alloc: Global,
@@ -54,13 +63,21 @@ fn step<R: Wait, D: Disk, P: Program>(
     journal: &mut Journal<D>,
 ) -> Result<Option<StoredEnd>, JournalFault>
     requires can { CanCallGoOn graph.now call.old journal.old }
-    ensures keeps { IsTrue D.told → KeepsCall P.meaning D.past graph.now (P.meaning program) call.old journal.old call.new journal.new }
-    ensures ends { IsTrue D.told → IfOk result (λ end. IfSome end (EndsCall P.meaning D.past graph.now (P.meaning program) call.old journal.old call.new journal.new)) }
-    ensures by { IfOk result (λ end. IfSome end (EndsBy journal.new (D.faults journal.old.disk) (D.faults journal.new.disk))) }
+    ensures keeps { IsTrue D.told →
+        KeepsCall P.meaning D.past graph.now (P.meaning program) call.old
+        journal.old call.new journal.new }
+    ensures ends { IsTrue D.told →
+        IfOk result (λ end. IfSome end
+        (EndsCall P.meaning D.past graph.now (P.meaning program) call.old journal.old
+        call.new journal.new)) }
+    ensures by { IfOk result (λ end.
+        IfSome end (EndsBy journal.new (D.faults journal.old.disk) (D.faults journal.new.disk))) }
     ensures on { IfOk result (λ end. end ≡ None → CanCallGoOn graph.now call.new journal.new) }
-    ensures short { IfOk result (λ end. end ≡ None → journal.old.length ≤ 2 ^ 30 → journal.new.length ≤ 2 ^ 30) }
+    ensures short { IfOk result (λ end. end ≡ None → journal.old.length ≤ 2 ^ 30 →
+        journal.new.length ≤ 2 ^ 30) }
     ensures refused { IfErr result IsWhyStopped }
-    ensures good { IsTrue D.told → (st : Setting) → IsNotRefused P.meaning D.past call.old journal.old st result }
+    ensures good { IsTrue D.told → (st : Setting) →
+        IsNotRefused P.meaning D.past call.old journal.old st result }
     ensures call { IsSameCall call.old call.new }
     ensures header { journal.new.header ≡ journal.old.header }
     ensures same { D.same journal.old.disk journal.new.disk }
@@ -81,8 +98,10 @@ fn step<R: Wait, D: Disk, P: Program>(
 
 /// Goes on to the next pause.
 fn go_on<R: Wait, P: Program>(rt: &R, call: &mut StoredCall<P>) -> Result<Pause, NoMemory>
-    ensures known { (header : Header) (start bodies : List (List ℕ)) (st : Setting) (o : CallOpening) →
-        IsKnownAt P.meaning call.old.course call.old header start bodies st o → IsKnownAt P.meaning call.new.course call.new header start bodies st o }
+    ensures known { (header : Header) (start bodies : List (List ℕ))
+        (st : Setting) (o : CallOpening) →
+        IsKnownAt P.meaning call.old.course call.old header start bodies st o →
+        IsKnownAt P.meaning call.new.course call.new header start bodies st o }
     ensures pause { IfOk result (PausesSo (IsEngineSaverOf P.meaning) call.new.course) }
     ensures unsaved { IfOk result (λ pause. pause ≡ Pause.Quiet → call.old.saves_end ≡ false) }
     ensures same { call.new ≡ record call.old { course = call.new.course } }

@@ -12,25 +12,28 @@ ghost use Rattle.full_laws.specs.Items.{AVertex, AnEdge};
 
 use gl_base::INF;
 
-/// Vertices 1 to 4 with the edges 1 2, 2 3 and 3 4, one on each of four machines. The scope of vertex 3
-/// holds the locks of 2 and 3 and waits for that of 4. The scope of vertex 1 waits for the lock of 2, and
-/// can't be granted it. Vertex 3 is updated and matched with 2, which its machine learns with what it is
-/// given. Then vertex 1 is updated, and finds nobody.
+/// Vertices 1 to 4 with the edges 1 2, 2 3 and 3 4, one on each of four machines. The scope of
+/// vertex 3 holds the locks of 2 and 3 and waits for that of 4. The scope of vertex 1 waits for the
+/// lock of 2, and can't be granted it. Vertex 3 is updated and matched with 2, which its machine
+/// learns with what it is given. Then vertex 1 is updated, and finds nobody.
 pub fn a_scope_waits_for_a_whole_scope()
     ensures setting { IsSetting each_on_its_own }
     ensures start { IsFullStart each_on_its_own update_of_pairs all_unmatched }
-    ensures both_may { IsFullRun each_on_its_own update_of_pairs all_unmatched both_set_out while_both_wait }
+    ensures both_may { IsFullRun each_on_its_own update_of_pairs all_unmatched
+        both_set_out while_both_wait }
     ensures held { ((while_both_wait.part 1).holds 1 of_third ≡ true)
         × ((while_both_wait.part 2).holds 2 of_third ≡ true)
         × ((while_both_wait.part 3).queue 3 ≡ of_third ∷ [])
         × ((while_both_wait.part 1).queue 1 ≡ of_first ∷ []) }
     ensures not_now { MayGrantFull each_on_its_own 1 1 (while_both_wait.part 1) → ⊥ }
-    ensures third_may { IsFullRun each_on_its_own update_of_pairs while_both_wait third_updates once_given }
+    ensures third_may { IsFullRun each_on_its_own update_of_pairs while_both_wait
+        third_updates once_given }
     ensures matched { ((once_given.part 1).number (AVertex 1) ≡ 3)
         × ((once_given.part 2).number (AVertex 2) ≡ 2)
         × ((once_given.part 1).number (AnEdge 1) ≡ 1)
         × ((once_given.part 2).number (AnEdge 1) ≡ 1) }
-    ensures first_may { IsFullRun each_on_its_own update_of_pairs once_given first_updates two_updated }
+    ensures first_may { IsFullRun each_on_its_own update_of_pairs once_given
+        first_updates two_updated }
     ensures numbers { ((two_updated.part 0).number (AVertex 0) ≡ INF)
         × ((two_updated.part 1).number (AVertex 1) ≡ 3)
         × ((two_updated.part 2).number (AVertex 2) ≡ 2)
@@ -46,11 +49,13 @@ pub fn a_scope_waits_for_a_whole_scope()
         × (two_updated.next ≡ 2) }
 {}
 
-/// The same line. If a machine granted a lock that is held, as readers share locks, that lock would have
-/// two holders. Then both updates could be made, each would give vertex 2 another number, and no order
-/// would have both.
+/// The same line. If a machine granted a lock that is held, as readers share locks, that lock would
+/// have two holders. Then both updates could be made, each would give vertex 2 another number, and
+/// no order would have both.
 pub fn a_shared_lock_has_no_order()
     ensures holders { HaveOneHolder with_shared_lock → ⊥ }
-    ensures may { IsFullRun each_on_its_own update_of_pairs with_shared_lock both_update both_updated }
-    ensures order { (order : List Entry) → IsFullReplay each_on_its_own update_of_pairs both_updated order → ⊥ }
+    ensures may { IsFullRun each_on_its_own update_of_pairs with_shared_lock
+        both_update both_updated }
+    ensures order { (order : List Entry) →
+        IsFullReplay each_on_its_own update_of_pairs both_updated order → ⊥ }
 {}

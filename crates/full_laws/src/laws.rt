@@ -21,16 +21,17 @@ pub fn full_clusters_start()
         (kept : IsFullCoherent st p w) × (kept.order ≡ []) }
 {}
 
-/// Whatever happens, it stays coherent: a held lock has one holder, each scope is in one place, what was
-/// gathered is what the owners have, and the numbers and tasks are those of one valid order, whose parts
-/// are the logs.
+/// Whatever happens, it stays coherent: a held lock has one holder, each scope is in one place,
+/// what was gathered is what the owners have, and the numbers and tasks are those of one valid
+/// order, whose parts are the logs.
 pub fn full_clusters_stay_coherent()
     ensures { (st : Setting) (p : FullUpdate) (start : FullWorld) (actions : List FullAction)
         (w : FullWorld) → IsSetting st → IsFullStart st p start → IsFullRun st p start actions w →
         IsFullCoherent st p w }
 {}
 
-/// The logs of all machines, merged by ticket, are that order; so they have one merge, and it is valid.
+/// The logs of all machines, merged by ticket, are that order; so they have one merge, and it is
+/// valid.
 pub fn full_logs_merge_to_their_order()
     ensures { (st : Setting) (p : FullUpdate) (w : FullWorld) (kept : IsFullCoherent st p w) →
         IsSetting st → (merged : List Entry) → IsMerge (all_logs st w) merged →
@@ -40,12 +41,14 @@ pub fn full_logs_merge_to_their_order()
 /// No vertex is in the scopes of two updates that are ready.
 pub fn ready_scopes_are_apart()
     ensures { (st : Setting) (p : FullUpdate) (w : FullWorld) → IsFullCoherent st p w →
-        (s t : ScopeId) (one : MayHappenFull st w (Updates s)) (other : MayHappenFull st w (Updates t))
-        (x : ℕ) → is_in_scope st one.vertex x ≡ true → is_in_scope st other.vertex x ≡ true → s ≡ t }
+        (s t : ScopeId) (one : MayHappenFull st w (Updates s))
+        (other : MayHappenFull st w (Updates t))
+        (x : ℕ) → is_in_scope st one.vertex x ≡ true →
+        is_in_scope st other.vertex x ≡ true → s ≡ t }
 {}
 
-/// An update that may be made is lent the numbers of the order so far: of its vertex, of the neighbours
-/// and of the edges to them.
+/// An update that may be made is lent the numbers of the order so far: of its vertex, of the
+/// neighbours and of the edges to them.
 pub fn full_updates_are_fresh()
     ensures { (st : Setting) (p : FullUpdate) (start : FullWorld) (actions : List FullAction)
         (w : FullWorld) → IsSetting st → IsFullStart st p start → IsFullRun st p start actions w →
@@ -54,8 +57,8 @@ pub fn full_updates_are_fresh()
         AgreeAround st.graph lent (full_replay st.graph p kept.order) may.vertex) }
 {}
 
-/// Once all that was given has come, each number is that of the order wherever it is kept, and the tasks
-/// are those of the order.
+/// Once all that was given has come, each number is that of the order wherever it is kept, and the
+/// tasks are those of the order.
 pub fn given_clusters_have_their_replay()
     ensures numbers { (st : Setting) (p : FullUpdate) (w : FullWorld)
         (kept : IsFullCoherent st p w) → IsAllGiven w →

@@ -1,4 +1,5 @@
-//! Laws of clusters whose updates write their whole scopes: scopes exclude one another, and the numbers are those of one order.
+//! Laws of clusters whose updates write their whole scopes: scopes exclude one another, and the
+//! numbers are those of one order.
 #![tactic(auto)]
 
 mod examples;

@@ -1,5 +1,5 @@
-//! Laws about updates that may write their neighbours too, and about their orders. Each is the contract
-//! of a function that does nothing.
+//! Laws about updates that may write their neighbours too, and about their orders. Each is the
+//! contract of a function that does nothing.
 ghost use Rattle.std.specs.Prelude.{◌≡◌, ◌≢◌, ℕ, ◌↔◌, false, List, [], ◌∷◌, ◌++◌, slice_index};
 ghost use Rattle.std.specs.List.{AllByRecursion};
 ghost use Rattle.gl_base.specs.declared.entries.Entry.{Entry};
@@ -14,7 +14,8 @@ ghost use Rattle.full_scope.specs.FullRows.{AreAround};
 ghost use Rattle.full_scope.specs.FullStates.{after_full, full_wakes, AgreeAround};
 ghost use Rattle.full_scope.specs.FullUpdates.{FullUpdate};
 
-/// One more entry at the end of an order: what it does to the numbers and the tasks, and when it may come.
+/// One more entry at the end of an order: what it does to the numbers and the tasks, and when it
+/// may come.
 pub fn full_orders_go_on()
     ensures replay { (g : DataGraph) (p : FullUpdate) (order : List Entry) (entry : Entry) →
         full_replay g p (order ++ entry ∷ []) ≡ full_entry g p (full_replay g p order) entry }
@@ -26,8 +27,8 @@ pub fn full_orders_go_on()
         ↔ (IsFullyValid g p order × MayCome (full_tasks_after g p order) entry) }
 {}
 
-/// An update of v leaves all numbers except those of v, of its neighbours and of the edges at v. If two
-/// states agree on these, it writes the same there and wakes the same vertices.
+/// An update of v leaves all numbers except those of v, of its neighbours and of the edges at v. If
+/// two states agree on these, it writes the same there and wakes the same vertices.
 pub fn full_updates_are_local()
     ensures vertices { (g : DataGraph) (p : FullUpdate) (s : GraphState) (v x : ℕ) →
         x ≢ v → AllByRecursion (λ h. x ≢ h.other) (halves_of g v) →
@@ -44,9 +45,9 @@ pub fn full_updates_are_local()
         AgreeAround g s t v → full_wakes g p s v u ≡ full_wakes g p t v u }
 {}
 
-/// If lists have the links and the numbers around v, an update of v on them is the update of v on the
-/// graph. For the numbers that it leaves, edges must have no direction: with a direction a neighbour may
-/// stand in the lists twice, and get two numbers.
+/// If lists have the links and the numbers around v, an update of v on them is the update of v on
+/// the graph. For the numbers that it leaves, edges must have no direction: with a direction a
+/// neighbour may stand in the lists twice, and get two numbers.
 pub fn full_rows_have_their_scope()
     ensures number { (g : DataGraph) (p : FullUpdate) (s : GraphState) (v : ℕ)
         (links : List FullLink) (numbers : List ℕ) → IsDataGraph g → AreAround g s v links numbers →

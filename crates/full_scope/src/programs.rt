@@ -7,8 +7,8 @@ ghost use Rattle.full_scope.specs.FullUpdates.{FullUpdate};
 use crate::FullScope;
 use update_api::Woken;
 
-/// Computes a number for each vertex by updates, each of one vertex, that hold the whole scope of the
-/// vertex. What an update does is a function of what its scope lends.
+/// Computes a number for each vertex by updates, each of one vertex, that hold the whole scope of
+/// the vertex. What an update does is a function of what its scope lends.
 pub trait FullProgram: Copy {
     ghost meaning: { Self → FullUpdate };
 
@@ -16,8 +16,8 @@ pub trait FullProgram: Copy {
     fn start(&self, id: u64) -> u64
         ensures { result ≡ (meaning self.now).start id };
 
-    /// Updates a vertex, and returns whom the update wakes. It writes the number of the vertex, those of
-    /// its neighbours and those of its edges, and nothing else.
+    /// Updates a vertex, and returns whom the update wakes. It writes the number of the vertex,
+    /// those of its neighbours and those of its edges, and nothing else.
     fn update(&self, scope: &mut FullScope<'_>) -> Woken
         ensures number { scope.new.centre.now ≡ (meaning self.now).number (surroundings scope.old) }
         ensures numbers { let seen = surroundings scope.old in let p = meaning self.now in

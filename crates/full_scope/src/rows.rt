@@ -5,8 +5,9 @@ ghost use Rattle.full_scope.specs.FullLinks.{IsFull, AreWritten, seen_in};
 use crate::{FullLink, FullProgram, FullScope};
 use update_api::Woken;
 
-/// Updates the vertex with this identifier and number, and returns whom the update wakes. The numbers of
-/// the other ends of the links stand first, each at its link's place, and behind them those of the edges.
+/// Updates the vertex with this identifier and number, and returns whom the update wakes. The
+/// numbers of the other ends of the links stand first, each at its link's place, and behind them
+/// those of the edges.
 pub fn update_lent<P: FullProgram>(
     program: &P,
     id: u64,

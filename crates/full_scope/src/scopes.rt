@@ -1,4 +1,5 @@
-//! The full scope of a vertex: what an update of it may read and write, its neighbours' numbers among it.
+//! The full scope of a vertex: what an update of it may read and write, its neighbours' numbers
+//! among it.
 ghost use Rattle.std.specs.Prelude.{◌≡◌, ◌+◌, ◌^◌, ◌<◌, length, slice_index, slice_set};
 ghost use Rattle.std.specs.Borrow.{Array, Lends, sem, u64 as number};
 ghost use Rattle.full_scope.specs.FullLinks.{IsFull};
@@ -6,9 +7,9 @@ ghost use Rattle.full_scope.specs.FullLinks.{IsFull};
 use crate::FullLink;
 use update_api::Direction;
 
-/// Lends all that an update of a vertex may use: the vertex's identifier, its own number, which is the
-/// centre, and for each edge at it the number of the other end and the edge's own number. Nothing is
-/// copied. The update may write all of these numbers, and nothing else.
+/// Lends all that an update of a vertex may use: the vertex's identifier, its own number, which is
+/// the centre, and for each edge at it the number of the other end and the edge's own number.
+/// Nothing is copied. The update may write all of these numbers, and nothing else.
 #[derive(Drop)]
 pub struct FullScope<'a> {
     id: u64,
@@ -21,8 +22,8 @@ pub struct FullScope<'a> {
 impl<'a> FullScope<'a> {
     ghost use Rattle.full_scope.specs.FullScopes.{full_link_at, LendsFullCentre, LendsNumberAt};
 
-    /// Returns the scope of the vertex with this identifier. The numbers of the other ends stand first,
-    /// each at its link's place, and behind them those of the edges.
+    /// Returns the scope of the vertex with this identifier. The numbers of the other ends stand
+    /// first, each at its link's place, and behind them those of the edges.
     pub fn new(
         id: u64,
         links: &'a [FullLink],

@@ -10,7 +10,8 @@ pub struct VertexLine {
     pub id: u64,
 }
 
-/// A vertex of another atom that an edge of this atom leads to, with its identifier and the atom that holds it.
+/// A vertex of another atom that an edge of this atom leads to, with its identifier and the atom
+/// that holds it.
 #[derive(Clone, Copy, Debug, PartialEq, Eq)]
 pub struct GhostLine {
     pub vertex: Vertex,
@@ -27,8 +28,8 @@ pub struct EdgeLine {
     pub weight: u32,
 }
 
-/// What an atom holds: its vertices, the other ends of its edges, and each edge with an end among its vertices. Each
-/// list ascends by the vertex or the edge.
+/// What an atom holds: its vertices, the other ends of its edges, and each edge with an end among
+/// its vertices. Each list ascends by the vertex or the edge.
 #[derive(Drop)]
 pub struct Lines {
     pub vertices: Vec<VertexLine>,
@@ -69,8 +70,8 @@ impl fmt::Display for AtomsKind {
     }
 }
 
-/// The first fault of the files of a cut. File 0 is the index, and file `a + 1` is that of atom `a`. `at` is the place of a
-/// byte of that file, or for `Owner` a vertex.
+/// The first fault of the files of a cut. File 0 is the index, and file `a + 1` is that of atom
+/// `a`. `at` is the place of a byte of that file, or for `Owner` a vertex.
 #[derive(Clone, Copy, Debug, Error)]
 #[error("file {file} of the cut, at {at}: {kind}")]
 pub struct AtomsFault {

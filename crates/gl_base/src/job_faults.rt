@@ -75,8 +75,8 @@ pub enum JobFault {
     /// The key's value is of another kind.
     #[error("the value of {0} is of the wrong kind")]
     WrongKind(Key),
-    /// The key's value is out of its range: the number itself, a text's length in bytes, or the place of
-    /// the first faulty failure.
+    /// The key's value is out of its range: the number itself, a text's length in bytes, or the
+    /// place of the first faulty failure.
     #[error("the value of {0} is out of its range: {1}")]
     OutOfRange(Key, u64),
     /// The key's value does not go with the job's algorithm.

@@ -12,8 +12,8 @@ pub enum Algorithm {
     Paths,
     /// A number that no neighbour has.
     Colours,
-    /// The core number: the greatest k for which the vertex lies in a part of the graph whose vertices all have at least k
-    /// neighbours in that part. Edges have no direction.
+    /// The core number: the greatest k for which the vertex lies in a part of the graph whose
+    /// vertices all have at least k neighbours in that part. Edges have no direction.
     Cores,
 }
 
@@ -33,8 +33,8 @@ pub struct FailureAt {
     pub after: u64,
 }
 
-/// A job. A field that may be absent is `None` exactly where its key was, and each other field has its
-/// key's value or the default.
+/// A job. A field that may be absent is `None` exactly where its key was, and each other field has
+/// its key's value or the default.
 #[derive(Drop)]
 pub struct Job {
     pub vertices: Name,

@@ -1,5 +1,5 @@
-//! The plain types of the engine: numbers of things, limits, orders, jobs, atoms, scopes, snapshots, and why a call was
-//! refused.
+//! The plain types of the engine: numbers of things, limits, orders, jobs, atoms, scopes,
+//! snapshots, and why a call was refused.
 #![tactic(auto)]
 
 mod atoms;

@@ -1,7 +1,9 @@
-//! What machines tell one another of: scopes and their locks, numbers with their versions, peers, and counts.
+//! What machines tell one another of: scopes and their locks, numbers with their versions, peers,
+//! and counts.
 use crate::MachineNo;
 
-/// A scope: an update that was admitted at its home machine, the owner of its centre. Serials count from 0 at each home.
+/// A scope: an update that was admitted at its home machine, the owner of its centre. Serials count
+/// from 0 at each home.
 #[derive(Clone, Copy, Debug, PartialEq, Eq)]
 pub struct ScopeId {
     pub home: MachineNo,
@@ -24,8 +26,8 @@ pub struct Claim {
     pub mode: Mode,
 }
 
-/// What a machine keeps of a vertex, its own or a ghost: its number, how often number or mark changed, and the last snapshot
-/// that has saved it.
+/// What a machine keeps of a vertex, its own or a ghost: its number, how often number or mark
+/// changed, and the last snapshot that has saved it.
 #[derive(Clone, Copy, PartialEq, Eq)]
 pub struct Datum {
     pub value: u64,
@@ -40,8 +42,9 @@ pub enum Peer {
     Coordinator,
 }
 
-/// What a machine answers to a wave: how many messages it has sent to and received from other machines, how many updates it
-/// has completed in this attempt, and whether it has no task, no scope and no pending vertex.
+/// What a machine answers to a wave: how many messages it has sent to and received from other
+/// machines, how many updates it has completed in this attempt, and whether it has no task, no
+/// scope and no pending vertex.
 #[derive(Clone, Copy)]
 pub struct Counted {
     pub sent: u64,

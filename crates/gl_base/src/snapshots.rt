@@ -8,7 +8,8 @@ pub struct SavedPart {
     pub edges: Vec<(EdgeNo, u64)>,
 }
 
-/// A snapshot as it is stored: its number, the entries that the one before has not, and the part of each machine.
+/// A snapshot as it is stored: its number, the entries that the one before has not, and the part of
+/// each machine.
 #[derive(Drop)]
 pub struct Record {
     pub number: u32,
@@ -16,8 +17,9 @@ pub struct Record {
     pub sections: Vec<SavedPart>,
 }
 
-/// What a run begins from: the last snapshot, with its whole order and one number for each vertex and each edge, or number
-/// 0, the empty order and the numbers at the start. `length` is how many bytes of the store are in use, 0 without one.
+/// What a run begins from: the last snapshot, with its whole order and one number for each vertex
+/// and each edge, or number 0, the empty order and the numbers at the start. `length` is how many
+/// bytes of the store are in use, 0 without one.
 #[derive(Drop)]
 pub struct Base {
     pub number: u32,

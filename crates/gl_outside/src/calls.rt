@@ -9,7 +9,8 @@ use crate::fault_count::FaultCount;
 use crate::{Failed, FileNo, OpenFault};
 use std::marker::Model;
 
-/// Counts of calls and of faults, which stay at the end of their type, and the numbers of the calls that fail.
+/// Counts of calls and of faults, which stay at the end of their type, and the numbers of the calls
+/// that fail.
 #[derive(Drop)]
 pub(crate) struct Calls {
     failing: Vec<u64>,
@@ -46,7 +47,8 @@ impl Calls {
         self.failing.contains(&self.count)
     }
 
-    /// Counts a call, and tells whether it is one of those that fail, or past the first `stop` calls.
+    /// Counts a call, and tells whether it is one of those that fail, or past the first `stop`
+    /// calls.
     pub(crate) fn count_until(&mut self, stop: u64) -> bool
         ensures told { IsTrue result ↔ NextStops self.old stop }
         ensures counted { self.new ≡ called self.old }
@@ -66,7 +68,8 @@ impl Calls {
 
     /// Counts a fault where an open failed.
     pub(crate) fn settle(&mut self, answer: Result<FileNo, OpenFault>)
-        ensures counted { (before : CallCounts) → self.old ≡ called before → self.new ≡ after_open before answer }
+        ensures counted { (before : CallCounts) → self.old ≡ called before →
+            self.new ≡ after_open before answer }
         ensures later { self.old.faults ≤ self.new.faults }
         ensures rose { answer ≡ Err OpenFault.Failed → Rose self.old.faults self.new.faults }
     {

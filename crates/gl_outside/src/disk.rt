@@ -7,8 +7,9 @@ use crate::Failed;
 
 /// Bytes that are read and written at any place, and that a crash may tear until they are synced.
 ///
-/// Between two syncs a crash may leave any bytes in each range that was written and past the old end, and the other bytes
-/// stay. After a sync that succeeds it leaves what a read gives. A disk as it reads is one of its images.
+/// Between two syncs a crash may leave any bytes in each range that was written and past the old
+/// end, and the other bytes stay. After a sync that succeeds it leaves what a read gives. A disk as
+/// it reads is one of its images.
 pub trait Disk {
     /// How many faults there were.
     ghost faults: { Self → ℕ };
@@ -16,7 +17,8 @@ pub trait Disk {
     /// Whether it is told what it holds: over memory it is, and over a real file it is not.
     ghost told: { Bool };
 
-    /// Its states up to now: what a read gives now, what a crash may leave now, and what it may have left before.
+    /// Its states up to now: what a read gives now, what a crash may leave now, and what it may
+    /// have left before.
     ghost past: { Self → DiskPast };
 
     /// What no call changes: two states of the object are related where it is the same in both.
@@ -24,7 +26,8 @@ pub trait Disk {
 
     /// How many bytes a read gives.
     fn len(&mut self) -> Result<u64, Failed>
-        ensures length { IsTrue told → IfOk result (λ count. count ≡ length (past self.old).now.seen) }
+        ensures length { IsTrue told →
+            IfOk result (λ count. count ≡ length (past self.old).now.seen) }
         ensures past { IsTrue told → past self.new ≡ past self.old }
         ensures same { same self.old self.new }
         ensures counts { Counts (faults self.old) (faults self.new) result };
@@ -38,14 +41,16 @@ pub trait Disk {
         ensures same { same self.old self.new }
         ensures counts { Counts (faults self.old) (faults self.new) result };
 
-    /// Writes the whole piece over what stands at `at`, and past the end. A gap before it reads as zeros. Until a sync a
-    /// crash may leave any bytes in the range and past the old end. Where it fails, a read may give any bytes there.
+    /// Writes the whole piece over what stands at `at`, and past the end. A gap before it reads as
+    /// zeros. Until a sync a crash may leave any bytes in the range and past the old end. Where it
+    /// fails, a read may give any bytes there.
     fn write_at(&mut self, at: u64, piece: &[u8]) -> Result<(), Failed>
         ensures past { IsTrue told → WritesAt (past self.old) at piece.now (past self.new) result }
         ensures same { same self.old self.new }
         ensures counts { Counts (faults self.old) (faults self.new) result };
 
-    /// After it a crash leaves what a read gives. Where it fails, a crash may leave what it might have left before.
+    /// After it a crash leaves what a read gives. Where it fails, a crash may leave what it might
+    /// have left before.
     fn sync(&mut self) -> Result<(), Failed>
         ensures past { IsTrue told → Syncs (past self.old) (past self.new) result }
         ensures same { same self.old self.new }
@@ -56,5 +61,6 @@ pub trait Disk {
     ghost same_trans: { (a b c : Self) → same a b → same b c → same a c };
 
     /// A disk as it reads is one of its images.
-    ghost reads_an_image: { (disk : Self) → IsTrue told → images_now (past disk) (past disk).now.seen };
+    ghost reads_an_image: { (disk : Self) → IsTrue told →
+        images_now (past disk) (past disk).now.seen };
 }

@@ -33,7 +33,11 @@ impl Model for DiskBytes {
 
     ghost view = { λ d. record { first = first_of d.first d.bytes.items; done = d.done.items } };
 
-    ghost invariant = { λ d. d.bytes.items ≡ (past_of (record { first = first_of d.first d.bytes.items; done = d.done.items })).now.seen };
+    ghost invariant = { λ d.
+        d.bytes.items ≡ (past_of (record {
+          first = first_of d.first d.bytes.items;
+          done = d.done.items;
+        })).now.seen };
 }
 
 impl DiskBytes {
@@ -68,7 +72,8 @@ impl DiskBytes {
     /// Writes the piece at that place. Where there is no memory, all stays as it was.
     pub(crate) fn write(&mut self, at: u64, piece: &[u8]) -> Result<(), AllocError>
         ensures ok { OnOk result (past_of self.new ≡ followed_by (past_of self.old)
-            (after_write (past_of self.old).now at (length piece.now) (with_piece (past_of self.old).now.seen at piece.now))) }
+            (after_write (past_of self.old).now at (length piece.now)
+            (with_piece (past_of self.old).now.seen at piece.now))) }
         ensures err { OnErr result (self.new ≡ self.old) }
     {
         let call = DiskCall::Wrote {
@@ -86,7 +91,9 @@ impl DiskBytes {
 
     /// Notes that all is on the disk. Where there is no memory, all stays as it was.
     pub(crate) fn sync(&mut self) -> Result<(), AllocError>
-        ensures ok { OnOk result (past_of self.new ≡ followed_by (past_of self.old) (after_sync (past_of self.old).now)) }
+        ensures ok { OnOk result
+            (past_of self.new ≡ followed_by (past_of self.old)
+            (after_sync (past_of self.old).now)) }
         ensures err { OnErr result (self.new ≡ self.old) }
     {
         self.done.push(DiskCall::Synced)?;
@@ -109,7 +116,8 @@ fn put_piece(bytes: &mut Vec<u8>, at: usize, piece: &[u8]) -> Result<(), AllocEr
 
 /// Adds zeros up to a length. Where there is no memory, all stays as it was.
 fn grow(bytes: &mut Vec<u8>, end: usize) -> Result<(), AllocError>
-    ensures ok { OnOk result (bytes.new.items ≡ bytes.old.items ++ replicate (end - length bytes.old.items) 0) }
+    ensures ok { OnOk result
+        (bytes.new.items ≡ bytes.old.items ++ replicate (end - length bytes.old.items) 0) }
     ensures err { OnErr result (bytes.new.items ≡ bytes.old.items) }
 {
     if end > bytes.len() {
@@ -121,7 +129,8 @@ fn grow(bytes: &mut Vec<u8>, end: usize) -> Result<(), AllocError>
 /// Writes the piece over what stands at its place.
 fn write_over(bytes: &mut Vec<u8>, at: usize, piece: &[u8])
     requires { at + length piece.now ≤ length bytes.old.items }
-    ensures { bytes.new.items ≡ take at bytes.old.items ++ piece.now ++ drop (at + length piece.now) bytes.old.items }
+    ensures { bytes.new.items ≡ take at bytes.old.items ++ piece.now ++ drop
+        (at + length piece.now) bytes.old.items }
 {
     bytes[at..at + piece.len()].copy_from_slice(piece);
 }

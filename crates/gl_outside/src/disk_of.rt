@@ -34,11 +34,17 @@ impl<'a, F: Files> Disk for DiskOf<'a, F> {
 
     ghost past = { λ s. disk_past (F.state s.files.now) s.file.0 };
 
-    ghost same = { λ s t. (t.files.ghost_name ≡ s.files.ghost_name) × (t.file.0 ≡ s.file.0) × ChangesDisk s.file.0 (F.state s.files.now) (F.state t.files.now) };
+    ghost same = { λ s t. (t.files.ghost_name ≡ s.files.ghost_name) × (t.file.0 ≡ s.file.0) ×
+        ChangesDisk s.file.0 (F.state s.files.now) (F.state t.files.now) };
 
     ghost same_refl = { λ a. (refl, refl, ChangesDisk-refl a.file.0 (F.state a.files.now)) };
 
-    ghost same_trans = { λ a b c p q. (q.0 ∙ p.0, q.1 ∙ p.1, ChangesDisk-trans a.file.0 b.file.0 (F.state a.files.now) (F.state b.files.now) (F.state c.files.now) p.1 p.2 q.2) };
+    ghost same_trans = { λ a b c p q. (
+      q.0 ∙ p.0,
+      q.1 ∙ p.1,
+      ChangesDisk-trans a.file.0 b.file.0 (F.state a.files.now) (F.state b.files.now)
+          (F.state c.files.now) p.1 p.2 q.2,
+    ) };
 
     fn len(&mut self) -> Result<u64, Failed> {
         self.files.len(self.file)
@@ -56,5 +62,7 @@ impl<'a, F: Files> Disk for DiskOf<'a, F> {
         self.files.sync(self.file)
     }
 
-    ghost reads_an_image = { λ disk told. under_image (F.state disk.files.now).pasts (disk_name (F.state disk.files.now) disk.file.0) (λ name. F.reads_an_image disk.files.now name told) };
+    ghost reads_an_image = { λ disk told.
+        under_image (F.state disk.files.now).pasts (disk_name (F.state disk.files.now) disk.file.0)
+        (λ name. F.reads_an_image disk.files.now name told) };
 }

@@ -1,6 +1,7 @@
 //! Gates, which see each update as it begins.
 
-/// A gate is passed as an update begins. It may hold the update up, so that a test can order updates.
+/// A gate is passed as an update begins. It may hold the update up, so that a test can order
+/// updates.
 pub trait Gate {
     /// An ordinary update of the vertex with this identifier begins.
     fn pass(&self, id: u64);

@@ -7,8 +7,8 @@ use std::marker::Model;
 use std::path::Path;
 use std::rt;
 
-/// An open file, and its folder until that was synced too: a file that was made is found again only then, and who made one that
-/// is there may have ended before.
+/// An open file, and its folder until that was synced too: a file that was made is found again only
+/// then, and who made one that is there may have ended before.
 #[derive(Drop)]
 pub(crate) struct HostDisk<F> {
     file: F,
@@ -23,7 +23,8 @@ impl<F> Model for HostDisk<F> {
 
 /// A file on which one process at a time can hold the system's advisory lock.
 pub trait LockFile {
-    /// Takes the lock, which the process holds until it closes the file. It is an error if another holds it.
+    /// Takes the lock, which the process holds until it closes the file. It is an error if another
+    /// holds it.
     fn lock_alone(&self) -> io::Result<()>;
 }
 
@@ -34,7 +35,8 @@ impl LockFile for File {
     }
 }
 
-/// Opens a file to read and write it, and locks it. One that is missing is made, without bytes, where its folder can be opened.
+/// Opens a file to read and write it, and locks it. One that is missing is made, without bytes,
+/// where its folder can be opened.
 pub(crate) fn open_host_disk<R: rt::Files>(rt: &R, name: &str) -> io::Result<HostDisk<R::File>>
 where
     R::File: LockFile,

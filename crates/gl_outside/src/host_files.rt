@@ -19,11 +19,12 @@ use std::io::Read;
 use std::marker::Model;
 use std::rt;
 
-/// The files of the system, by path. Each error of the system is a fault, and so is an open of more files than there are
-/// numbers for them. A folder may be opened as a file is, and then each read of it fails.
+/// The files of the system, by path. Each error of the system is a fault, and so is an open of more
+/// files than there are numbers for them. A folder may be opened as a file is, and then each read
+/// of it fails.
 ///
-/// An open takes its memory first. So where it answers `NoMemory` it has not asked the system for the file, and a file that
-/// was to be written is what it was.
+/// An open takes its memory first. So where it answers `NoMemory` it has not asked the system for
+/// the file, and a file that was to be written is what it was.
 #[derive(Drop)]
 pub struct HostFiles<R: rt::Files> {
     rt: R,
@@ -40,13 +41,27 @@ impl<R: rt::Files> Model for HostFiles<R> {
 
     ghost Value = { HostState R.File };
 
-    ghost view = { λ s. record { sources = s.sources.items; sinks = s.sinks.items; disks = s.disks.items; reads = s.reads; writes = s.writes; disk_faults = s.disk_faults } };
+    ghost view = { λ s. record {
+      sources = s.sources.items;
+      sinks = s.sinks.items;
+      disks = s.disks.items;
+      reads = s.reads;
+      writes = s.writes;
+      disk_faults = s.disk_faults;
+    } };
 }
 
 impl<R: rt::Files> HostFiles<R> {
     /// The files of this runtime. Nothing is opened yet, and it takes no memory.
     pub fn new(alloc: Global, rt: R) -> Self
-        ensures { result ≡ record { sources = []; sinks = []; disks = []; reads = 0; writes = 0; disk_faults = 0 } }
+        ensures { result ≡ record {
+          sources = [];
+          sinks = [];
+          disks = [];
+          reads = 0;
+          writes = 0;
+          disk_faults = 0;
+        } }
     {
         HostFiles {
             rt,
@@ -69,10 +84,13 @@ where
     ghost disks_told = { false };
 
     fn open_source(&mut self, name: &str) -> Result<FileNo, OpenFault>
-        ensures opens { OpensSource (files_of_host self.old) (files_of_host self.new) name.now result }
+        ensures opens { OpensSource (files_of_host self.old)
+            (files_of_host self.new) name.now result }
         ensures there { OnOk result
-            (IfSome (files_of_host self.old).sources.names (λ names. IsTrue (is_some ((files_of_host self.old).contents name.now)))) }
-        ensures names { NotesName (files_of_host self.old).sources.names (files_of_host self.new).sources.names name.now result }
+            (IfSome (files_of_host self.old).sources.names (λ names.
+            IsTrue (is_some ((files_of_host self.old).contents name.now)))) }
+        ensures names { NotesName (files_of_host self.old).sources.names
+            (files_of_host self.new).sources.names name.now result }
         ensures later { self.old.reads ≤ self.new.reads }
         ensures failed { result ≡ Err OpenFault.Failed → Rose self.old.reads self.new.reads }
 
@@ -95,7 +113,8 @@ where
     fn read(&mut self, file: FileNo, buf: &mut [u8]) -> Result<usize, Failed>
         requires { IsTrue (is_opened (files_of_host self.old).sources file.0) }
         ensures bound { IfOk result (λ count. count ≤ length buf.new) }
-        ensures bytes { ReadConsumes (left_of (files_of_host self.old) file.0) (left_of (files_of_host self.new) file.0) result buf.new }
+        ensures bytes { ReadConsumes (left_of (files_of_host self.old) file.0)
+            (left_of (files_of_host self.new) file.0) result buf.new }
         ensures frame { ReadsOnly file.0 (files_of_host self.old) (files_of_host self.new) }
         ensures counts { Counts self.old.reads self.new.reads result }
 
@@ -112,8 +131,10 @@ where
     }
 
     fn open_sink(&mut self, name: &str) -> Result<FileNo, OpenFault>
-        ensures opens { OpensSink (files_of_host self.old) (files_of_host self.new) name.now result }
-        ensures names { NotesName (files_of_host self.old).sinks.names (files_of_host self.new).sinks.names name.now result }
+        ensures opens { OpensSink (files_of_host self.old)
+            (files_of_host self.new) name.now result }
+        ensures names { NotesName (files_of_host self.old).sinks.names
+            (files_of_host self.new).sinks.names name.now result }
         ensures later { self.old.writes ≤ self.new.writes }
         ensures failed { result ≡ Err OpenFault.Failed → Rose self.old.writes self.new.writes }
 
@@ -136,8 +157,10 @@ where
     fn write(&mut self, file: FileNo, piece: &[u8]) -> Result<usize, Failed>
         requires { IsTrue (is_opened (files_of_host self.old).sinks file.0) }
         ensures bound { IfOk result (λ count. count ≤ length piece.now) }
-        ensures bytes { WriteAppends (written_of (files_of_host self.old) file.0) (written_of (files_of_host self.new) file.0) result piece.now }
-        ensures none_taken { IfOk result (λ count. count ≡ 0 → 0 < length piece.now → Rose self.old.writes self.new.writes) }
+        ensures bytes { WriteAppends (written_of (files_of_host self.old) file.0)
+            (written_of (files_of_host self.new) file.0) result piece.now }
+        ensures none_taken { IfOk result (λ count. count ≡ 0 → 0 < length piece.now →
+            Rose self.old.writes self.new.writes) }
         ensures frame { WritesOnly file.0 (files_of_host self.old) (files_of_host self.new) }
         ensures counts { Counts self.old.writes self.new.writes result }
 
@@ -153,14 +176,18 @@ where
         }
     }
 
-    /// Opens the file to read and write it, and makes it where it is missing. It fails while another process has the file open so: the
-    /// file is locked until these files are dropped. The first sync that succeeds syncs its folder too, where that could be
-    /// opened, so that a file that was made is found again.
+    /// Opens the file to read and write it, and makes it where it is missing. It fails while
+    /// another process has the file open so: the file is locked until these files are dropped. The
+    /// first sync that succeeds syncs its folder too, where that could be opened, so that a file
+    /// that was made is found again.
     fn open_disk(&mut self, name: &str) -> Result<FileNo, OpenFault>
-        ensures opens { OpensDisk (files_of_host self.old) (files_of_host self.new) name.now result }
-        ensures names { NotesName (files_of_host self.old).disks.names (files_of_host self.new).disks.names name.now result }
+        ensures opens { OpensDisk (files_of_host self.old)
+            (files_of_host self.new) name.now result }
+        ensures names { NotesName (files_of_host self.old).disks.names
+            (files_of_host self.new).disks.names name.now result }
         ensures later { self.old.disk_faults ≤ self.new.disk_faults }
-        ensures failed { result ≡ Err OpenFault.Failed → Rose self.old.disk_faults self.new.disk_faults }
+        ensures failed { result ≡ Err OpenFault.Failed →
+            Rose self.old.disk_faults self.new.disk_faults }
 
         ensures one { OpensOne self.old.disks self.new.disks result }
         ensures counted { self.new.disk_faults ≡ faults_after_open self.old.disk_faults result }
@@ -173,7 +200,9 @@ where
 
     fn len(&mut self, file: FileNo) -> Result<u64, Failed>
         requires { IsTrue (is_opened (files_of_host self.old).disks file.0) }
-        ensures length { IsTrue false → IfOk result (λ count. count ≡ length (disk_past (files_of_host self.old) file.0).now.seen) }
+        ensures length { IsTrue false →
+            IfOk result (λ count.
+            count ≡ length (disk_past (files_of_host self.old) file.0).now.seen) }
         ensures frame { LooksAtDisk (files_of_host self.old) (files_of_host self.new) }
         ensures counts { Counts self.old.disk_faults self.new.disk_faults result }
 
@@ -189,7 +218,8 @@ where
     fn read_at(&mut self, file: FileNo, at: u64, buf: &mut [u8]) -> Result<usize, Failed>
         requires { IsTrue (is_opened (files_of_host self.old).disks file.0) }
         ensures bound { IfOk result (λ count. count ≤ length buf.new) }
-        ensures bytes { IsTrue false → ReadsAt (disk_past (files_of_host self.old) file.0).now.seen at buf.new result }
+        ensures bytes { IsTrue false →
+            ReadsAt (disk_past (files_of_host self.old) file.0).now.seen at buf.new result }
         ensures frame { LooksAtDisk (files_of_host self.old) (files_of_host self.new) }
         ensures counts { Counts self.old.disk_faults self.new.disk_faults result }
 
@@ -204,7 +234,9 @@ where
 
     fn write_at(&mut self, file: FileNo, at: u64, piece: &[u8]) -> Result<(), Failed>
         requires { IsTrue (is_opened (files_of_host self.old).disks file.0) }
-        ensures past { IsTrue false → WritesAt (disk_past (files_of_host self.old) file.0) at piece.now (disk_past (files_of_host self.new) file.0) result }
+        ensures past { IsTrue false →
+            WritesAt (disk_past (files_of_host self.old) file.0) at piece.now
+            (disk_past (files_of_host self.new) file.0) result }
         ensures frame { ChangesDisk file.0 (files_of_host self.old) (files_of_host self.new) }
         ensures counts { Counts self.old.disk_faults self.new.disk_faults result }
 
@@ -220,7 +252,9 @@ where
     /// Asks the system to put the file on the disk, and its folder the first time.
     fn sync(&mut self, file: FileNo) -> Result<(), Failed>
         requires { IsTrue (is_opened (files_of_host self.old).disks file.0) }
-        ensures past { IsTrue false → Syncs (disk_past (files_of_host self.old) file.0) (disk_past (files_of_host self.new) file.0) result }
+        ensures past { IsTrue false →
+            Syncs (disk_past (files_of_host self.old) file.0)
+            (disk_past (files_of_host self.new) file.0) result }
         ensures frame { ChangesDisk file.0 (files_of_host self.old) (files_of_host self.new) }
         ensures counts { Counts self.old.disk_faults self.new.disk_faults result }
 

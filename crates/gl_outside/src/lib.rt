@@ -1,7 +1,9 @@
-//! The outside of the engine: sources, sinks, disks and files by name, in memory and on the real system.
+//! The outside of the engine: sources, sinks, disks and files by name, in memory and on the real
+//! system.
 //!
-//! Each object has a count of its faults, which never falls and has risen where a call answers `Failed`. What an object
-//! has left or holds is told over memory, and is not told over a real file, stream or terminal.
+//! Each object has a count of its faults, which never falls and has risen where a call answers
+//! `Failed`. What an object has left or holds is told over memory, and is not told over a real
+//! file, stream or terminal.
 #![tactic(auto)]
 
 mod calls;

@@ -13,9 +13,9 @@ use crate::{Disk, Failed};
 use std::alloc::Global;
 use std::marker::Model;
 
-/// Bytes in memory as a disk, with a list of the numbers of the calls that fail; each call after the first `stop` calls
-/// fails too. The first call has the number 1. It keeps every call, so that it is told at each moment what a crash may
-/// have left.
+/// Bytes in memory as a disk, with a list of the numbers of the calls that fail; each call after
+/// the first `stop` calls fails too. The first call has the number 1. It keeps every call, so that
+/// it is told at each moment what a crash may have left.
 #[derive(Drop)]
 pub struct MemDisk {
     kept: DiskBytes,
@@ -34,7 +34,11 @@ impl Model for MemDisk {
 impl MemDisk {
     /// The disk that holds these bytes, all of them synced. It takes no memory.
     pub fn new(alloc: Global, bytes: Vec<u8>, failing: Vec<u64>, stop: u64) -> Self
-        ensures { result ≡ record { kept = record { first = bytes.items; done = [] }; calls = no_calls failing.items; stop = stop } }
+        ensures { result ≡ record {
+          kept = record { first = bytes.items; done = [] };
+          calls = no_calls failing.items;
+          stop = stop;
+        } }
     {
         MemDisk {
             kept: DiskBytes::new(alloc, bytes),
@@ -65,7 +69,8 @@ impl Disk for MemDisk {
     ghost same_trans = { λ a b c p q. q ∙ p };
 
     fn len(&mut self) -> Result<u64, Failed>
-        ensures length { IsTrue true → IfOk result (λ count. count ≡ length (past_of self.old.kept).now.seen) }
+        ensures length { IsTrue true →
+            IfOk result (λ count. count ≡ length (past_of self.old.kept).now.seen) }
         ensures past { IsTrue true → past_of self.new.kept ≡ past_of self.old.kept }
         ensures same { self.new.stop ≡ self.old.stop }
         ensures counts { Counts self.old.calls.faults self.new.calls.faults result }
@@ -97,10 +102,11 @@ impl Disk for MemDisk {
         Ok(self.kept.read(at, buf))
     }
 
-    /// Fails where its number is listed, past the first `stop` calls, and where there is no memory to keep it; then nothing
-    /// is written.
+    /// Fails where its number is listed, past the first `stop` calls, and where there is no memory
+    /// to keep it; then nothing is written.
     fn write_at(&mut self, at: u64, piece: &[u8]) -> Result<(), Failed>
-        ensures past { IsTrue true → WritesAt (past_of self.old.kept) at piece.now (past_of self.new.kept) result }
+        ensures past { IsTrue true →
+            WritesAt (past_of self.old.kept) at piece.now (past_of self.new.kept) result }
         ensures same { self.new.stop ≡ self.old.stop }
         ensures counts { Counts self.old.calls.faults self.new.calls.faults result }
 

@@ -31,8 +31,8 @@ impl Model for StoredDisk {
     ghost view = { λ d. record { name = d.name; kept = d.kept } };
 }
 
-/// Disks by name, with a list of the numbers of the calls that fail, opens included; each call after the first `stop`
-/// calls fails too. The first call has the number 1.
+/// Disks by name, with a list of the numbers of the calls that fail, opens included; each call
+/// after the first `stop` calls fails too. The first call has the number 1.
 #[derive(Drop)]
 pub(crate) struct MemDisks {
     alloc: Global,
@@ -50,15 +50,28 @@ impl Model for MemDisks {
 
     ghost Value = { DisksState };
 
-    ghost view = { λ s. record { disks = s.disks.items; places = s.places.items; names = s.names.items; calls = s.calls; stop = s.stop } };
+    ghost view = { λ s. record {
+      disks = s.disks.items;
+      places = s.places.items;
+      names = s.names.items;
+      calls = s.calls;
+      stop = s.stop;
+    } };
 
-    ghost invariant = { λ s. All (λ place. place < length s.disks.items) s.places.items × HaveOwnNames s.disks.items };
+    ghost invariant = { λ s. All (λ place. place < length s.disks.items) s.places.items ×
+        HaveOwnNames s.disks.items };
 }
 
 impl MemDisks {
     /// No disks. It takes no memory.
     pub(crate) fn new(alloc: Global, failing: Vec<u64>, stop: u64) -> Self
-        ensures { result ≡ record { disks = []; places = []; names = []; calls = no_calls failing.items; stop = stop } }
+        ensures { result ≡ record {
+          disks = [];
+          places = [];
+          names = [];
+          calls = no_calls failing.items;
+          stop = stop;
+        } }
     {
         MemDisks {
             alloc,
@@ -83,11 +96,12 @@ impl MemDisks {
         }
     }
 
-    /// The disk of this name holds these bytes from now on, all of them synced. Where there is no memory, all stays as it
-    /// was.
+    /// The disk of this name holds these bytes from now on, all of them synced. Where there is no
+    /// memory, all stays as it was.
     pub(crate) fn put(&mut self, name: &str, bytes: Vec<u8>) -> Result<(), AllocError>
         ensures holds { OnOk result (past_among self.new.disks name.now ≡ at_rest bytes.items) }
-        ensures others { (other : List ℕ) → other ≢ name.now → past_among self.new.disks other ≡ past_among self.old.disks other }
+        ensures others { (other : List ℕ) → other ≢ name.now →
+            past_among self.new.disks other ≡ past_among self.old.disks other }
         ensures opened { opened_disks self.new ≡ opened_disks self.old }
         ensures calls { self.new.calls ≡ self.old.calls }
         ensures stop { self.new.stop ≡ self.old.stop }
@@ -101,14 +115,18 @@ impl MemDisks {
     /// Opens the disk of this name, which is made where there is none.
     pub(crate) fn open(&mut self, name: &str) -> Result<FileNo, OpenFault>
         ensures number { IfOk result (λ file. file.0 ≡ length self.old.places) }
-        ensures opened { OnOk result ((opened_disks self.new).files ≡ (opened_disks self.old).files ++ Some name.now ∷ []) }
+        ensures opened { OnOk result
+            ((opened_disks self.new).files ≡ (opened_disks self.old).files ++ Some name.now ∷ []) }
         ensures pasts { past_among self.new.disks ≡ past_among self.old.disks }
-        ensures refused { OnErr result ((opened_disks self.new).files ≡ (opened_disks self.old).files) }
+        ensures refused { OnErr result
+            ((opened_disks self.new).files ≡ (opened_disks self.old).files) }
         ensures names { NotesName (Some self.old.names) (Some self.new.names) name.now result }
         ensures later { self.old.calls.faults ≤ self.new.calls.faults }
-        ensures failed { result ≡ Err OpenFault.Failed → Rose self.old.calls.faults self.new.calls.faults }
+        ensures failed { result ≡ Err OpenFault.Failed →
+            Rose self.old.calls.faults self.new.calls.faults }
         ensures listed { NextStops self.old.calls self.old.stop → IsErr result }
-        ensures only { result ≡ Err OpenFault.Failed → NextStops self.old.calls self.old.stop ⊎ HasNoDiskNumber self.old }
+        ensures only { result ≡ Err OpenFault.Failed → NextStops self.old.calls self.old.stop ⊎
+            HasNoDiskNumber self.old }
         ensures calls { self.new.calls ≡ after_open self.old.calls result }
         ensures stop { self.new.stop ≡ self.old.stop }
     {
@@ -158,10 +176,17 @@ impl MemDisks {
 
     pub(crate) fn write_at(&mut self, file: FileNo, at: u64, piece: &[u8]) -> Result<(), Failed>
         requires { file.0 < length self.old.places }
-        ensures past { WritesAt (past_in self.old file.0) at piece.now (past_in self.new file.0) result }
-        ensures others { (other : List ℕ) → slice_index_or (opened_disks self.old).files file.0 None ≢ Some other → past_among self.new.disks other ≡ past_among self.old.disks other }
-        ensures frame { self.new ≡ record self.old { disks = self.new.disks; calls = self.new.calls } }
-        ensures named { opened_disks self.new ≡ record (opened_disks self.old) { faults = self.new.calls.faults } }
+        ensures past { WritesAt (past_in self.old file.0) at piece.now
+            (past_in self.new file.0) result }
+        ensures others { (other : List ℕ) →
+            slice_index_or (opened_disks self.old).files file.0 None ≢ Some other →
+            past_among self.new.disks other ≡ past_among self.old.disks other }
+        ensures frame { self.new ≡ record self.old {
+          disks = self.new.disks;
+          calls = self.new.calls;
+        } }
+        ensures named { opened_disks self.new ≡
+            record (opened_disks self.old) { faults = self.new.calls.faults } }
         ensures counts { Counts self.old.calls.faults self.new.calls.faults result }
         ensures listed { NextStops self.old.calls self.old.stop → IsErr result }
         ensures refused { OnErr result (self.new.disks ≡ self.old.disks) }
@@ -180,9 +205,15 @@ impl MemDisks {
     pub(crate) fn sync(&mut self, file: FileNo) -> Result<(), Failed>
         requires { file.0 < length self.old.places }
         ensures past { Syncs (past_in self.old file.0) (past_in self.new file.0) result }
-        ensures others { (other : List ℕ) → slice_index_or (opened_disks self.old).files file.0 None ≢ Some other → past_among self.new.disks other ≡ past_among self.old.disks other }
-        ensures frame { self.new ≡ record self.old { disks = self.new.disks; calls = self.new.calls } }
-        ensures named { opened_disks self.new ≡ record (opened_disks self.old) { faults = self.new.calls.faults } }
+        ensures others { (other : List ℕ) →
+            slice_index_or (opened_disks self.old).files file.0 None ≢ Some other →
+            past_among self.new.disks other ≡ past_among self.old.disks other }
+        ensures frame { self.new ≡ record self.old {
+          disks = self.new.disks;
+          calls = self.new.calls;
+        } }
+        ensures named { opened_disks self.new ≡
+            record (opened_disks self.old) { faults = self.new.calls.faults } }
         ensures counts { Counts self.old.calls.faults self.new.calls.faults result }
         ensures listed { NextStops self.old.calls self.old.stop → IsErr result }
         ensures refused { OnErr result (self.new.disks ≡ self.old.disks) }
@@ -199,7 +230,8 @@ impl MemDisks {
     }
 }
 
-/// Opens the disk of this name, which is made where there is none, unless the call is listed. The name is noted first.
+/// Opens the disk of this name, which is made where there is none, unless the call is listed. The
+/// name is noted first.
 fn open_in(
     alloc: Global,
     disks: &mut Vec<StoredDisk>,
@@ -212,13 +244,18 @@ fn open_in(
     requires apart { HaveOwnNames disks.old.items }
     ensures number { IfOk result (λ file. file.0 ≡ length places.old.items) }
     ensures names { NotesName (Some names.old.items) (Some names.new.items) name.now result }
-    ensures opened { OnOk result (map (told_name disks.new.items) places.new.items ≡ map (told_name disks.old.items) places.old.items ++ Some name.now ∷ []) }
-    ensures refused { OnErr result (map (told_name disks.new.items) places.new.items ≡ map (told_name disks.old.items) places.old.items) }
+    ensures opened { OnOk result
+        (map (told_name disks.new.items) places.new.items ≡ map (told_name disks.old.items)
+        places.old.items ++ Some name.now ∷ []) }
+    ensures refused { OnErr result
+        (map (told_name disks.new.items) places.new.items ≡ map
+        (told_name disks.old.items) places.old.items) }
     ensures pasts { past_among disks.new.items ≡ past_among disks.old.items }
     ensures inside { All (λ place. place < length disks.new.items) places.new.items }
     ensures apart { HaveOwnNames disks.new.items }
     ensures listed { IsTrue listed → IsErr result }
-    ensures only { result ≡ Err OpenFault.Failed → IsTrue listed ⊎ (2 ^ 32 ≤ length places.old.items) }
+    ensures only { result ≡ Err OpenFault.Failed → IsTrue listed ⊎
+        (2 ^ 32 ≤ length places.old.items) }
 {
     note(alloc, names, name)?;
     let Some(number) = next_number(listed, places.len()) else {
@@ -228,7 +265,8 @@ fn open_in(
     Ok(number)
 }
 
-/// Adds the place of the disk of this name to those that are open. Where there is no memory, none is added.
+/// Adds the place of the disk of this name to those that are open. Where there is no memory, none
+/// is added.
 fn add_place(
     alloc: Global,
     disks: &mut Vec<StoredDisk>,
@@ -237,8 +275,12 @@ fn add_place(
 ) -> Result<(), AllocError>
     requires inside { All (λ place. place < length disks.old.items) places.old.items }
     requires apart { HaveOwnNames disks.old.items }
-    ensures opened { OnOk result (map (told_name disks.new.items) places.new.items ≡ map (told_name disks.old.items) places.old.items ++ Some name.now ∷ []) }
-    ensures refused { OnErr result (map (told_name disks.new.items) places.new.items ≡ map (told_name disks.old.items) places.old.items) }
+    ensures opened { OnOk result
+        (map (told_name disks.new.items) places.new.items ≡ map (told_name disks.old.items)
+        places.old.items ++ Some name.now ∷ []) }
+    ensures refused { OnErr result
+        (map (told_name disks.new.items) places.new.items ≡ map
+        (told_name disks.old.items) places.old.items) }
     ensures pasts { past_among disks.new.items ≡ past_among disks.old.items }
     ensures inside { All (λ place. place < length disks.new.items) places.new.items }
     ensures apart { HaveOwnNames disks.new.items }
@@ -257,10 +299,12 @@ fn place_of(disks: &[StoredDisk], name: &str) -> Option<usize>
     disks.iter().position(|disk| disk.name.as_str() == name)
 }
 
-/// The place of the disk of this name, which is added where there is none. Where there is no memory, all stays as it was.
+/// The place of the disk of this name, which is added where there is none. Where there is no
+/// memory, all stays as it was.
 fn place_for(alloc: Global, disks: &mut Vec<StoredDisk>, name: &str) -> Result<usize, AllocError>
     requires { HaveOwnNames disks.old.items }
-    ensures place { IfOk result (λ place. (place < length disks.new.items) × ((disk_at disks.new.items place).name ≡ name.now)) }
+    ensures place { IfOk result (λ place. (place < length disks.new.items) ×
+        ((disk_at disks.new.items place).name ≡ name.now)) }
     ensures pasts { past_among disks.new.items ≡ past_among disks.old.items }
     ensures names { (places : List ℕ) → All (λ place. place < length disks.old.items) places
         → map (told_name disks.new.items) places ≡ map (told_name disks.old.items) places }

@@ -34,10 +34,15 @@ impl Model for StoredFile {
 
     ghost Value = { NamedBytes };
 
-    ghost view = { λ f. record { name = f.name; bytes = f.bytes.items; ready = vec_capacity f.bytes } };
+    ghost view = { λ f. record {
+      name = f.name;
+      bytes = f.bytes.items;
+      ready = vec_capacity f.bytes;
+    } };
 }
 
-/// A file that is open for reading: its place among the files, how far it was read, and where it ended as it was opened.
+/// A file that is open for reading: its place among the files, how far it was read, and where it
+/// ended as it was opened.
 #[derive(Clone, Copy)]
 struct OpenFile {
     place: usize,
@@ -45,12 +50,14 @@ struct OpenFile {
     end: usize,
 }
 
-/// Files in memory, with lists of the numbers of the calls that fail. Opens for reading and reads are counted together,
-/// so are opens for writing and writes, and so are opens as a disk and the calls on disks, of which each after the first
+/// Files in memory, with lists of the numbers of the calls that fail. Opens for reading and reads
+/// are counted together, so are opens for writing and writes, and so are opens as a disk and the
+/// calls on disks, of which each after the first
 /// `stop` fails too. The first call of each kind has the number 1.
 ///
-/// A file that is put or made again is a new file: what was opened before goes on with the bytes that it had. A disk is a
-/// file apart from the one of its name that is read or written, and one that nobody wrote to has no bytes.
+/// A file that is put or made again is a new file: what was opened before goes on with the bytes
+/// that it had. A disk is a file apart from the one of its name that is read or written, and one
+/// that nobody wrote to has no bytes.
 #[derive(Drop)]
 pub struct MemFiles {
     alloc: Global,
@@ -72,14 +79,24 @@ impl Model for MemFiles {
 
     ghost use Rattle.gl_outside.specs.Inner.OpenFiles.{left_in, IsOpenInside, AreSinks};
 
-    ghost view = { λ s. record { files = s.files.items; source_names = s.source_names.items; opened = map (left_in s.files.items) s.opened.items; reads = s.reads; sink_names = s.sink_names.items; sinks = s.sinks.items; writes = s.writes; disks = s.disks } };
+    ghost view = { λ s. record {
+      files = s.files.items;
+      source_names = s.source_names.items;
+      opened = map (left_in s.files.items) s.opened.items;
+      reads = s.reads;
+      sink_names = s.sink_names.items;
+      sinks = s.sinks.items;
+      writes = s.writes;
+      disks = s.disks;
+    } };
 
-    ghost invariant = { λ s. All (IsOpenInside s.files.items) s.opened.items × AreSinks s.files.items s.sinks.items };
+    ghost invariant = { λ s. All (IsOpenInside s.files.items) s.opened.items ×
+        AreSinks s.files.items s.sinks.items };
 }
 
 impl MemFiles {
-    /// No files, the numbers of the calls of each kind that fail, and after how many calls on disks all of them fail. It takes
-    /// no memory.
+    /// No files, the numbers of the calls of each kind that fail, and after how many calls on disks
+    /// all of them fail. It takes no memory.
     pub fn new(alloc: Global, reads: Vec<u64>, writes: Vec<u64>, disk: Vec<u64>, stop: u64) -> Self
         ensures { result ≡ record {
           files = [];
@@ -89,7 +106,13 @@ impl MemFiles {
           sink_names = [];
           sinks = [];
           writes = no_calls writes.items;
-          disks = record { disks = []; places = []; names = []; calls = no_calls disk.items; stop = stop };
+          disks = record {
+            disks = [];
+            places = [];
+            names = [];
+            calls = no_calls disk.items;
+            stop = stop;
+          };
         } }
     {
         MemFiles {
@@ -105,17 +128,20 @@ impl MemFiles {
         }
     }
 
-    /// Adds a file, or replaces what the file of this name gives. Where there is no memory, all stays as it was.
+    /// Adds a file, or replaces what the file of this name gives. Where there is no memory, all
+    /// stays as it was.
     pub fn put(&mut self, name: &str, bytes: Vec<u8>) -> Result<(), NoMemory>
         ensures gives { OnOk result (bytes_of self.new.files name.now ≡ Some bytes.items) }
         ensures others { OnOk result
-            ((other : List ℕ) → other ≢ name.now → bytes_of self.new.files other ≡ bytes_of self.old.files other) }
+            ((other : List ℕ) → other ≢ name.now →
+            bytes_of self.new.files other ≡ bytes_of self.old.files other) }
         ensures source_names { self.new.source_names ≡ self.old.source_names }
         ensures opened { self.new.opened ≡ self.old.opened }
         ensures reads { self.new.reads ≡ self.old.reads }
         ensures sink_names { self.new.sink_names ≡ self.old.sink_names }
         ensures sinks { self.new.sinks ≡ self.old.sinks }
-        ensures written { (file : ℕ) → written_of (files_of_store self.new) file ≡ written_of (files_of_store self.old) file }
+        ensures written { (file : ℕ) →
+            written_of (files_of_store self.new) file ≡ written_of (files_of_store self.old) file }
         ensures writes { self.new.writes ≡ self.old.writes }
         ensures disks { self.new.disks ≡ self.old.disks }
         ensures unchanged { OnErr result (self.new ≡ self.old) }
@@ -135,16 +161,19 @@ impl MemFiles {
         Some(file.bytes.as_slice())
     }
 
-    /// The disk of this name holds these bytes from now on, all of them synced. Where there is no memory, no disk changes.
+    /// The disk of this name holds these bytes from now on, all of them synced. Where there is no
+    /// memory, no disk changes.
     pub fn put_disk(&mut self, name: &str, bytes: Vec<u8>) -> Result<(), NoMemory>
-        ensures holds { OnOk result (past_among self.new.disks.disks name.now ≡ at_rest bytes.items) }
+        ensures holds { OnOk result
+            (past_among self.new.disks.disks name.now ≡ at_rest bytes.items) }
         ensures others { (other : List ℕ) → other ≢ name.now
             → past_among self.new.disks.disks other ≡ past_among self.old.disks.disks other }
         ensures opened { opened_disks self.new.disks ≡ opened_disks self.old.disks }
         ensures calls { self.new.disks.calls ≡ self.old.disks.calls }
         ensures stop { self.new.disks.stop ≡ self.old.disks.stop }
         ensures files { self.new ≡ record self.old { disks = self.new.disks } }
-        ensures unchanged { OnErr result (past_among self.new.disks.disks ≡ past_among self.old.disks.disks) }
+        ensures unchanged { OnErr result
+            (past_among self.new.disks.disks ≡ past_among self.old.disks.disks) }
     {
         Ok(self.disks.put(name, bytes)?)
     }
@@ -162,15 +191,19 @@ impl Files for MemFiles {
 
     ghost disks_told = { true };
 
-    /// Fails where its number is listed, where no file has the name, and where as many files were opened as there are
-    /// numbers for them.
+    /// Fails where its number is listed, where no file has the name, and where as many files were
+    /// opened as there are numbers for them.
     fn open_source(&mut self, name: &str) -> Result<FileNo, OpenFault>
-        ensures opens { OpensSource (files_of_store self.old) (files_of_store self.new) name.now result }
+        ensures opens { OpensSource (files_of_store self.old)
+            (files_of_store self.new) name.now result }
         ensures there { OnOk result
-            (IfSome (files_of_store self.old).sources.names (λ names. IsTrue (is_some ((files_of_store self.old).contents name.now)))) }
-        ensures names { NotesName (files_of_store self.old).sources.names (files_of_store self.new).sources.names name.now result }
+            (IfSome (files_of_store self.old).sources.names (λ names.
+            IsTrue (is_some ((files_of_store self.old).contents name.now)))) }
+        ensures names { NotesName (files_of_store self.old).sources.names
+            (files_of_store self.new).sources.names name.now result }
         ensures later { self.old.reads.faults ≤ self.new.reads.faults }
-        ensures failed { result ≡ Err OpenFault.Failed → Rose self.old.reads.faults self.new.reads.faults }
+        ensures failed { result ≡ Err OpenFault.Failed →
+            Rose self.old.reads.faults self.new.reads.faults }
 
         ensures listed { NextFails self.old.reads → IsErr result }
         ensures missing { IsMissing self.old name.now → IsErr result }
@@ -201,13 +234,15 @@ impl Files for MemFiles {
     fn read(&mut self, file: FileNo, buf: &mut [u8]) -> Result<usize, Failed>
         requires { IsTrue (is_opened (files_of_store self.old).sources file.0) }
         ensures bound { IfOk result (λ count. count ≤ length buf.new) }
-        ensures bytes { ReadConsumes (left_of (files_of_store self.old) file.0) (left_of (files_of_store self.new) file.0) result buf.new }
+        ensures bytes { ReadConsumes (left_of (files_of_store self.old) file.0)
+            (left_of (files_of_store self.new) file.0) result buf.new }
         ensures frame { ReadsOnly file.0 (files_of_store self.old) (files_of_store self.new) }
         ensures counts { Counts self.old.reads.faults self.new.reads.faults result }
 
         ensures fails { IsErr result ↔ NextFails self.old.reads }
         ensures all { IfOk result (λ count.
-            IfSome (left_of (files_of_store self.old) file.0) (λ left. count ≡ min (length left) (length buf.new))) }
+            IfSome (left_of (files_of_store self.old) file.0) (λ left.
+            count ≡ min (length left) (length buf.new))) }
         ensures calls { self.new.reads ≡ after_call self.old.reads result }
         ensures files { self.new.files ≡ self.old.files }
         ensures written { self.new.sinks ≡ self.old.sinks }
@@ -223,17 +258,23 @@ impl Files for MemFiles {
         Ok(count)
     }
 
-    /// Fails where its number is listed, and where as many files were opened as there are numbers for them.
+    /// Fails where its number is listed, and where as many files were opened as there are numbers
+    /// for them.
     fn open_sink(&mut self, name: &str) -> Result<FileNo, OpenFault>
-        ensures opens { OpensSink (files_of_store self.old) (files_of_store self.new) name.now result }
-        ensures names { NotesName (files_of_store self.old).sinks.names (files_of_store self.new).sinks.names name.now result }
+        ensures opens { OpensSink (files_of_store self.old)
+            (files_of_store self.new) name.now result }
+        ensures names { NotesName (files_of_store self.old).sinks.names
+            (files_of_store self.new).sinks.names name.now result }
         ensures later { self.old.writes.faults ≤ self.new.writes.faults }
-        ensures failed { result ≡ Err OpenFault.Failed → Rose self.old.writes.faults self.new.writes.faults }
+        ensures failed { result ≡ Err OpenFault.Failed →
+            Rose self.old.writes.faults self.new.writes.faults }
 
         ensures listed { NextFails self.old.writes → IsErr result }
-        ensures only { result ≡ Err OpenFault.Failed → NextFails self.old.writes ⊎ HasNoSinkNumber self.old }
+        ensures only { result ≡ Err OpenFault.Failed → NextFails self.old.writes ⊎
+            HasNoSinkNumber self.old }
         ensures gives { OnOk result (bytes_of self.new.files name.now ≡ Some []) }
-        ensures refused { OnErr result ((self.new.files ≡ self.old.files) × (self.new.sinks ≡ self.old.sinks)) }
+        ensures refused { OnErr result ((self.new.files ≡ self.old.files) ×
+            (self.new.sinks ≡ self.old.sinks)) }
         ensures next { IfOk result (λ file. file.0 ≡ length self.old.sinks) }
         ensures calls { self.new.writes ≡ after_open self.old.writes result }
         ensures reads { self.new.reads ≡ self.old.reads }
@@ -252,18 +293,22 @@ impl Files for MemFiles {
         answer
     }
 
-    /// Takes the whole piece. It fails where its number is listed, and where there is no memory for the piece.
+    /// Takes the whole piece. It fails where its number is listed, and where there is no memory for
+    /// the piece.
     fn write(&mut self, file: FileNo, piece: &[u8]) -> Result<usize, Failed>
         requires { IsTrue (is_opened (files_of_store self.old).sinks file.0) }
         ensures bound { IfOk result (λ count. count ≤ length piece.now) }
-        ensures bytes { WriteAppends (written_of (files_of_store self.old) file.0) (written_of (files_of_store self.new) file.0) result piece.now }
+        ensures bytes { WriteAppends (written_of (files_of_store self.old) file.0)
+            (written_of (files_of_store self.new) file.0) result piece.now }
         ensures none_taken { IfOk result
-            (λ count. count ≡ 0 → 0 < length piece.now → Rose self.old.writes.faults self.new.writes.faults) }
+            (λ count. count ≡ 0 → 0 < length piece.now →
+            Rose self.old.writes.faults self.new.writes.faults) }
         ensures frame { WritesOnly file.0 (files_of_store self.old) (files_of_store self.new) }
         ensures counts { Counts self.old.writes.faults self.new.writes.faults result }
 
         ensures listed { NextFails self.old.writes → IsErr result }
-        ensures only { OnErr result (NextFails self.old.writes ⊎ WantsMemoryIn self.old file.0 piece.now) }
+        ensures only { OnErr result (NextFails self.old.writes ⊎
+            WantsMemoryIn self.old file.0 piece.now) }
         ensures all { IfOk result (λ count. count ≡ length piece.now) }
         ensures ready { ready_in self.old file.0 ≤ ready_in self.new file.0 }
         ensures refused { OnErr result (self.new.files ≡ self.old.files) }
@@ -279,13 +324,16 @@ impl Files for MemFiles {
         }
     }
 
-    /// Fails where its number is listed, past the first `stop` calls on disks, and where as many were opened as there are
-    /// numbers for them.
+    /// Fails where its number is listed, past the first `stop` calls on disks, and where as many
+    /// were opened as there are numbers for them.
     fn open_disk(&mut self, name: &str) -> Result<FileNo, OpenFault>
-        ensures opens { OpensDisk (files_of_store self.old) (files_of_store self.new) name.now result }
-        ensures names { NotesName (files_of_store self.old).disks.names (files_of_store self.new).disks.names name.now result }
+        ensures opens { OpensDisk (files_of_store self.old)
+            (files_of_store self.new) name.now result }
+        ensures names { NotesName (files_of_store self.old).disks.names
+            (files_of_store self.new).disks.names name.now result }
         ensures later { self.old.disks.calls.faults ≤ self.new.disks.calls.faults }
-        ensures failed { result ≡ Err OpenFault.Failed → Rose self.old.disks.calls.faults self.new.disks.calls.faults }
+        ensures failed { result ≡ Err OpenFault.Failed →
+            Rose self.old.disks.calls.faults self.new.disks.calls.faults }
 
         ensures listed { NextStops self.old.disks.calls self.old.disks.stop → IsErr result }
         ensures only { result ≡ Err OpenFault.Failed →
@@ -299,7 +347,9 @@ impl Files for MemFiles {
 
     fn len(&mut self, file: FileNo) -> Result<u64, Failed>
         requires { IsTrue (is_opened (files_of_store self.old).disks file.0) }
-        ensures length { IsTrue true → IfOk result (λ count. count ≡ length (disk_past (files_of_store self.old) file.0).now.seen) }
+        ensures length { IsTrue true →
+            IfOk result (λ count.
+            count ≡ length (disk_past (files_of_store self.old) file.0).now.seen) }
         ensures frame { LooksAtDisk (files_of_store self.old) (files_of_store self.new) }
         ensures counts { Counts self.old.disks.calls.faults self.new.disks.calls.faults result }
 
@@ -313,7 +363,8 @@ impl Files for MemFiles {
     fn read_at(&mut self, file: FileNo, at: u64, buf: &mut [u8]) -> Result<usize, Failed>
         requires { IsTrue (is_opened (files_of_store self.old).disks file.0) }
         ensures bound { IfOk result (λ count. count ≤ length buf.new) }
-        ensures bytes { IsTrue true → ReadsAt (disk_past (files_of_store self.old) file.0).now.seen at buf.new result }
+        ensures bytes { IsTrue true →
+            ReadsAt (disk_past (files_of_store self.old) file.0).now.seen at buf.new result }
         ensures frame { LooksAtDisk (files_of_store self.old) (files_of_store self.new) }
         ensures counts { Counts self.old.disks.calls.faults self.new.disks.calls.faults result }
 
@@ -324,11 +375,13 @@ impl Files for MemFiles {
         self.disks.read_at(file, at, buf)
     }
 
-    /// Fails where its number is listed, past the first `stop` calls on disks, and where there is no memory to keep it; then
-    /// nothing is written.
+    /// Fails where its number is listed, past the first `stop` calls on disks, and where there is
+    /// no memory to keep it; then nothing is written.
     fn write_at(&mut self, file: FileNo, at: u64, piece: &[u8]) -> Result<(), Failed>
         requires { IsTrue (is_opened (files_of_store self.old).disks file.0) }
-        ensures past { IsTrue true → WritesAt (disk_past (files_of_store self.old) file.0) at piece.now (disk_past (files_of_store self.new) file.0) result }
+        ensures past { IsTrue true →
+            WritesAt (disk_past (files_of_store self.old) file.0) at piece.now
+            (disk_past (files_of_store self.new) file.0) result }
         ensures frame { ChangesDisk file.0 (files_of_store self.old) (files_of_store self.new) }
         ensures counts { Counts self.old.disks.calls.faults self.new.disks.calls.faults result }
 
@@ -343,7 +396,9 @@ impl Files for MemFiles {
     /// Fails as a write to a disk does.
     fn sync(&mut self, file: FileNo) -> Result<(), Failed>
         requires { IsTrue (is_opened (files_of_store self.old).disks file.0) }
-        ensures past { IsTrue true → Syncs (disk_past (files_of_store self.old) file.0) (disk_past (files_of_store self.new) file.0) result }
+        ensures past { IsTrue true →
+            Syncs (disk_past (files_of_store self.old) file.0)
+            (disk_past (files_of_store self.new) file.0) result }
         ensures frame { ChangesDisk file.0 (files_of_store self.old) (files_of_store self.new) }
         ensures counts { Counts self.old.disks.calls.faults self.new.disks.calls.faults result }
 
@@ -377,7 +432,8 @@ pub(crate) fn note(alloc: Global, names: &mut Vec<Name>, name: &str) -> Result<(
 
 /// The number of the next file, where the call is not listed and there is a number left.
 pub(crate) fn next_number(listed: bool, count: usize) -> Option<FileNo>
-    ensures { MatchOption result (IsTrue listed ⊎ (2 ^ 32 ≤ count)) (λ file. (file.0 ≡ count) × (IsTrue listed → ⊥)) }
+    ensures { MatchOption result (IsTrue listed ⊎
+        (2 ^ 32 ≤ count)) (λ file. (file.0 ≡ count) × (IsTrue listed → ⊥)) }
 {
     if listed {
         return None;
@@ -386,7 +442,8 @@ pub(crate) fn next_number(listed: bool, count: usize) -> Option<FileNo>
     Some(FileNo(number))
 }
 
-/// Opens the newest file of this name for reading, unless the call is listed. The name is noted first.
+/// Opens the newest file of this name for reading, unless the call is listed. The name is noted
+/// first.
 fn open_in(
     alloc: Global,
     files: &[StoredFile],
@@ -400,7 +457,8 @@ fn open_in(
     ensures adds { AddsSource files.now opened.old.items opened.new.items name.now result }
     ensures inside { All (IsOpenInside files.now) opened.new.items }
     ensures listed { IsTrue listed → IsErr result }
-    ensures only { result ≡ Err OpenFault.Failed → IsTrue listed ⊎ (bytes_of files.now name.now ≡ None) ⊎ (2 ^ 32 ≤ length opened.old.items) }
+    ensures only { result ≡ Err OpenFault.Failed → IsTrue listed ⊎
+        (bytes_of files.now name.now ≡ None) ⊎ (2 ^ 32 ≤ length opened.old.items) }
 {
     note(alloc, names, name)?;
     add_opened(files, opened, listed, name)
@@ -417,7 +475,8 @@ fn add_opened(
     ensures adds { AddsSource files.now opened.old.items opened.new.items name.now result }
     ensures inside { All (IsOpenInside files.now) opened.new.items }
     ensures listed { IsTrue listed → IsErr result }
-    ensures only { result ≡ Err OpenFault.Failed → IsTrue listed ⊎ (bytes_of files.now name.now ≡ None) ⊎ (2 ^ 32 ≤ length opened.old.items) }
+    ensures only { result ≡ Err OpenFault.Failed → IsTrue listed ⊎
+        (bytes_of files.now name.now ≡ None) ⊎ (2 ^ 32 ≤ length opened.old.items) }
 {
     let Some(number) = next_number(listed, opened.len()) else {
         return Err(OpenFault::Failed);
@@ -440,7 +499,8 @@ fn open_newest(files: &[StoredFile], name: &str) -> Option<OpenFile>
     Some(OpenFile { place, at: 0, end })
 }
 
-/// Makes an empty file of this name and opens it for writing, unless the call is listed. The name is noted first.
+/// Makes an empty file of this name and opens it for writing, unless the call is listed. The name
+/// is noted first.
 fn make_in(
     alloc: Global,
     files: &mut Vec<StoredFile>,
@@ -450,9 +510,11 @@ fn make_in(
     name: &str,
 ) -> Result<FileNo, OpenFault>
     ensures names { NotesName (Some names.old.items) (Some names.new.items) name.now result }
-    ensures adds { AddsSink files.old.items files.new.items sinks.old.items sinks.new.items name.now result }
+    ensures adds { AddsSink files.old.items files.new.items sinks.old.items
+        sinks.new.items name.now result }
     ensures listed { IsTrue listed → IsErr result }
-    ensures only { result ≡ Err OpenFault.Failed → IsTrue listed ⊎ (2 ^ 32 ≤ length sinks.old.items) }
+    ensures only { result ≡ Err OpenFault.Failed → IsTrue listed ⊎
+        (2 ^ 32 ≤ length sinks.old.items) }
 {
     note(alloc, names, name)?;
     let Some(number) = next_number(listed, sinks.len()) else {
@@ -489,15 +551,18 @@ fn read_on(files: &[StoredFile], file: OpenFile, buf: &mut [u8]) -> (usize, Open
     (count, OpenFile { at, ..file })
 }
 
-/// Adds an empty file of this name, and its place to those that are open for writing. Where there is no memory, all stays as it was.
+/// Adds an empty file of this name, and its place to those that are open for writing. Where there
+/// is no memory, all stays as it was.
 fn make(
     alloc: Global,
     files: &mut Vec<StoredFile>,
     sinks: &mut Vec<usize>,
     name: &str,
 ) -> Result<(), AllocError>
-    ensures adds { OnOk result (AddsFile files.old.items files.new.items sinks.old.items sinks.new.items name.now) }
-    ensures err { OnErr result ((files.new.items ≡ files.old.items) × (sinks.new.items ≡ sinks.old.items)) }
+    ensures adds { OnOk result
+        (AddsFile files.old.items files.new.items sinks.old.items sinks.new.items name.now) }
+    ensures err { OnErr result ((files.new.items ≡ files.old.items) ×
+        (sinks.new.items ≡ sinks.old.items)) }
 {
     let name = copied_name(alloc, name)?;
     let bytes = Vec::new(alloc);
@@ -509,7 +574,8 @@ fn make(
     Ok(())
 }
 
-/// Adds the piece to the file at this place, unless the call is listed. Where it fails, all stays as it was.
+/// Adds the piece to the file at this place, unless the call is listed. Where it fails, all stays
+/// as it was.
 fn write_in(
     files: &mut Vec<StoredFile>,
     place: usize,
@@ -518,7 +584,8 @@ fn write_in(
 ) -> Result<(), Failed>
     requires { place < length files.old.items }
     ensures ok { OnOk result
-        (files.new.items ≡ appended files.old.items place piece.now (ready_at files.new.items place)) }
+        (files.new.items ≡ appended files.old.items place piece.now
+        (ready_at files.new.items place)) }
     ensures err { OnErr result (files.new.items ≡ files.old.items) }
     ensures listed { IsTrue listed → IsErr result }
     ensures only { OnErr result (IsTrue listed ⊎ WantsMemoryAt files.old.items place piece.now) }
@@ -537,7 +604,8 @@ fn write_in(
 fn append(files: &mut Vec<StoredFile>, place: usize, piece: &[u8]) -> Result<(), AllocError>
     requires { place < length files.old.items }
     ensures ok { OnOk result
-        (files.new.items ≡ appended files.old.items place piece.now (ready_at files.new.items place)) }
+        (files.new.items ≡ appended files.old.items place piece.now
+        (ready_at files.new.items place)) }
     ensures err { OnErr result (files.new.items ≡ files.old.items) }
     ensures full { OnErr result (WantsMemoryAt files.old.items place piece.now) }
     ensures ready { ready_at files.old.items place ≤ ready_at files.new.items place }

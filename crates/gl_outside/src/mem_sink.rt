@@ -10,8 +10,8 @@ use crate::{Failed, Sink};
 use std::alloc::Global;
 use std::marker::Model;
 
-/// A sink that keeps what it takes, with a list of the numbers of the writes that fail and with room for so many bytes.
-/// The first write has the number 1.
+/// A sink that keeps what it takes, with a list of the numbers of the writes that fail and with
+/// room for so many bytes. The first write has the number 1.
 #[derive(Drop)]
 pub struct MemSink {
     bytes: Vec<u8>,
@@ -25,7 +25,12 @@ impl Model for MemSink {
 
     ghost Value = { SinkState };
 
-    ghost view = { λ s. record { held = s.bytes.items; room = s.room; ready = vec_capacity s.bytes; calls = s.calls } };
+    ghost view = { λ s. record {
+      held = s.bytes.items;
+      room = s.room;
+      ready = vec_capacity s.bytes;
+      calls = s.calls;
+    } };
 }
 
 impl MemSink {
@@ -62,20 +67,22 @@ impl Sink for MemSink {
 
     ghost same_trans = { λ a b c p q. tt };
 
-    /// Takes what there is room for. It fails where its number is listed, where there is no room for a piece that is
-    /// not empty, and where there is no memory for what it would take.
+    /// Takes what there is room for. It fails where its number is listed, where there is no room
+    /// for a piece that is not empty, and where there is no memory for what it would take.
     fn write(&mut self, piece: &[u8]) -> Result<usize, Failed>
         ensures bound { IfOk result (λ count. count ≤ length piece.now) }
         ensures bytes { WriteAppends (Some self.old.held) (Some self.new.held) result piece.now }
         ensures none_taken { IfOk result
-            (λ count. count ≡ 0 → 0 < length piece.now → Rose self.old.calls.faults self.new.calls.faults) }
+            (λ count. count ≡ 0 → 0 < length piece.now →
+            Rose self.old.calls.faults self.new.calls.faults) }
         ensures same { Unit {0} }
         ensures counts { Counts self.old.calls.faults self.new.calls.faults result }
 
         ensures listed { NextFails self.old.calls → IsErr result }
         ensures no_room { HasNoRoom self.old piece.now → IsErr result }
         ensures only { OnErr result
-            (NextFails self.old.calls ⊎ HasNoRoom self.old piece.now ⊎ WantsMemory self.old piece.now) }
+            (NextFails self.old.calls ⊎ HasNoRoom self.old piece.now ⊎
+            WantsMemory self.old piece.now) }
         ensures all { IfOk result (λ count. count ≡ fitting self.old piece.now) }
         ensures room { self.new.room ≡ room_after self.old.room result }
         ensures ready { self.old.ready ≤ self.new.ready }

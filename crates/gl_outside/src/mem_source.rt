@@ -60,7 +60,8 @@ impl Source for PlainSource {
     }
 }
 
-/// Bytes in memory, with a list of the numbers of the reads that fail. The first read has the number 1.
+/// Bytes in memory, with a list of the numbers of the reads that fail. The first read has the
+/// number 1.
 #[derive(Drop)]
 pub struct MemSource {
     bytes: PlainSource,
@@ -115,7 +116,8 @@ impl Source for MemSource {
     }
 }
 
-/// Copies the front of `rest` into the front of `buf`, as much as both have, and returns how much that is.
+/// Copies the front of `rest` into the front of `buf`, as much as both have, and returns how much
+/// that is.
 pub(crate) fn copy_front(rest: &[u8], buf: &mut [u8]) -> usize
     ensures count { result ≡ min (length rest.now) (length buf.old) }
     ensures front { take result buf.new ≡ take result rest.now }

@@ -13,7 +13,8 @@ pub trait Sink {
     /// The bytes that it holds, where they are told.
     ghost held: { Self → Option (List ℕ) };
 
-    /// What writing never changes: two states of the object are related where it is the same in both.
+    /// What writing never changes: two states of the object are related where it is the same in
+    /// both.
     ghost same: { Self → Self → Type 0 };
 
     /// `Ok(k)` appended the first k bytes of `piece`. `Ok(0)` for a piece that is not empty is a fault too, and is
@@ -21,7 +22,8 @@ pub trait Sink {
     fn write(&mut self, piece: &[u8]) -> Result<usize, Failed>
         ensures bound { IfOk result (λ count. count ≤ length piece.now) }
         ensures bytes { WriteAppends (held self.old) (held self.new) result piece.now }
-        ensures none_taken { IfOk result (λ count. count ≡ 0 → 0 < length piece.now → Rose (faults self.old) (faults self.new)) }
+        ensures none_taken { IfOk result (λ count. count ≡ 0 → 0 < length piece.now →
+            Rose (faults self.old) (faults self.new)) }
         ensures same { same self.old self.new }
         ensures counts { Counts (faults self.old) (faults self.new) result };
 

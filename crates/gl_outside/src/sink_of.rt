@@ -32,11 +32,17 @@ impl<'a, F: Files> Sink for SinkOf<'a, F> {
 
     ghost held = { λ s. written_of (F.state s.files.now) s.file.0 };
 
-    ghost same = { λ s t. (t.files.ghost_name ≡ s.files.ghost_name) × (t.file.0 ≡ s.file.0) × WritesOnly s.file.0 (F.state s.files.now) (F.state t.files.now) };
+    ghost same = { λ s t. (t.files.ghost_name ≡ s.files.ghost_name) × (t.file.0 ≡ s.file.0) ×
+        WritesOnly s.file.0 (F.state s.files.now) (F.state t.files.now) };
 
     ghost same_refl = { λ a. (refl, refl, WritesOnly-refl a.file.0 (F.state a.files.now)) };
 
-    ghost same_trans = { λ a b c p q. (q.0 ∙ p.0, q.1 ∙ p.1, WritesOnly-trans a.file.0 b.file.0 (F.state a.files.now) (F.state b.files.now) (F.state c.files.now) p.1 p.2 q.2) };
+    ghost same_trans = { λ a b c p q. (
+      q.0 ∙ p.0,
+      q.1 ∙ p.1,
+      WritesOnly-trans a.file.0 b.file.0 (F.state a.files.now) (F.state b.files.now)
+          (F.state c.files.now) p.1 p.2 q.2,
+    ) };
 
     fn write(&mut self, piece: &[u8]) -> Result<usize, Failed> {
         self.files.write(self.file, piece)

@@ -15,7 +15,8 @@ pub trait Source {
     /// The bytes that are left, where they are told.
     ghost left: { Self → Option (List ℕ) };
 
-    /// What reading never changes: two states of the object are related where it is the same in both.
+    /// What reading never changes: two states of the object are related where it is the same in
+    /// both.
     ghost same: { Self → Self → Type 0 };
 
     /// `Ok(k)` took the next k bytes into the front of `buf`. `Ok(0)` for a buffer that is not empty is the end.

@@ -7,7 +7,8 @@ ghost use Rattle.gl_outside.specs.Inner.Laws.{ReadsOnly-refl, ReadsOnly-trans};
 
 use crate::{Failed, FileNo, Files, Source};
 
-/// One file that is open for reading, as a source. Its count of faults is that of reading the files.
+/// One file that is open for reading, as a source. Its count of faults is that of reading the
+/// files.
 #[derive(Drop)]
 pub struct SourceOf<'a, F: Files> {
     pub files: &'a mut F,
@@ -32,11 +33,17 @@ impl<'a, F: Files> Source for SourceOf<'a, F> {
 
     ghost left = { λ s. left_of (F.state s.files.now) s.file.0 };
 
-    ghost same = { λ s t. (t.files.ghost_name ≡ s.files.ghost_name) × (t.file.0 ≡ s.file.0) × ReadsOnly s.file.0 (F.state s.files.now) (F.state t.files.now) };
+    ghost same = { λ s t. (t.files.ghost_name ≡ s.files.ghost_name) × (t.file.0 ≡ s.file.0) ×
+        ReadsOnly s.file.0 (F.state s.files.now) (F.state t.files.now) };
 
     ghost same_refl = { λ a. (refl, refl, ReadsOnly-refl a.file.0 (F.state a.files.now)) };
 
-    ghost same_trans = { λ a b c p q. (q.0 ∙ p.0, q.1 ∙ p.1, ReadsOnly-trans a.file.0 b.file.0 (F.state a.files.now) (F.state b.files.now) (F.state c.files.now) p.1 p.2 q.2) };
+    ghost same_trans = { λ a b c p q. (
+      q.0 ∙ p.0,
+      q.1 ∙ p.1,
+      ReadsOnly-trans a.file.0 b.file.0 (F.state a.files.now) (F.state b.files.now)
+          (F.state c.files.now) p.1 p.2 q.2,
+    ) };
 
     fn read(&mut self, buf: &mut [u8]) -> Result<usize, Failed> {
         self.files.read(self.file, buf)

@@ -10,8 +10,8 @@ use crate::{Failed, Sink};
 use std::io;
 use std::marker::Model;
 
-/// A writer as a sink. Each write is flushed, and it fails where the writer or the flush fails, and where the writer takes
-/// nothing of a piece that is not empty.
+/// A writer as a sink. Each write is flushed, and it fails where the writer or the flush fails, and
+/// where the writer takes nothing of a piece that is not empty.
 #[derive(Drop)]
 pub struct WriterSink<W> {
     writer: W,
@@ -59,13 +59,16 @@ impl<W: io::Write> Sink for WriterSink<W> {
     fn write(&mut self, piece: &[u8]) -> Result<usize, Failed>
         ensures bound { IfOk result (λ count. count ≤ length piece.now) }
         ensures bytes { WriteAppends None None result piece.now }
-        ensures none_taken { IfOk result (λ count. count ≡ 0 → 0 < length piece.now → Rose self.old.faults self.new.faults) }
+        ensures none_taken { IfOk result (λ count. count ≡ 0 → 0 < length piece.now →
+            Rose self.old.faults self.new.faults) }
         ensures same { Unit {0} }
         ensures counts { Counts self.old.faults self.new.faults result }
 
         ensures written { IfOk result
-            (λ count. Appends (W.contents self.old.writer) (W.contents self.new.writer) (take count piece.now)) }
-        ensures front { AppendsFront (W.contents self.old.writer) (W.contents self.new.writer) piece.now }
+            (λ count. Appends (W.contents self.old.writer) (W.contents self.new.writer)
+            (take count piece.now)) }
+        ensures front { AppendsFront (W.contents self.old.writer)
+            (W.contents self.new.writer) piece.now }
         ensures counted { self.new.faults ≡ faults_after self.old.faults result }
     {
         match write_through(&mut self.writer, piece) {
@@ -78,7 +81,8 @@ impl<W: io::Write> Sink for WriterSink<W> {
 /// Writes what the writer takes of the piece, and flushes it.
 pub(crate) fn write_through<W: io::Write>(writer: &mut W, piece: &[u8]) -> io::Result<usize>
     ensures bound { IfOk result (λ count. count ≤ length piece.now) }
-    ensures bytes { IfOk result (λ count. Appends (W.contents writer.old) (W.contents writer.new) (take count piece.now)) }
+    ensures bytes { IfOk result (λ count.
+        Appends (W.contents writer.old) (W.contents writer.new) (take count piece.now)) }
     ensures front { AppendsFront (W.contents writer.old) (W.contents writer.new) piece.now }
 {
     let count = writer.write(piece)?;

@@ -42,7 +42,8 @@ fn exit_code(status: &Status) -> ExitCode
     ExitCode::from(status.number())
 }
 
-/// The words after the program's name. Words that are no text are no command, and neither are more than any command has.
+/// The words after the program's name. Words that are no text are no command, and neither are more
+/// than any command has.
 fn words_of<R: Env + AllocGlobal>(rt: &R) -> Result<Vec<String>, Status>
     ensures { IfOk result (λ words. length words.items < 4294967295) }
 {

@@ -23,7 +23,10 @@ pub fn digest(graph: &Graph) -> [u8; 32]
 
 /// Feeds whether edges have a direction, and how many vertices and edges there are.
 fn feed_head<D: Digest>(hasher: &mut D, graph: &Graph)
-    ensures { (fed : List ℕ) → D.holds hasher.old fed → D.holds hasher.new (fed ++ (((if graph.now.directed then 1 else 0) ∷ []) ++ to_be_bytes w32 (size graph.now) ++ to_be_bytes w32 (length graph.now.edges))) }
+    ensures { (fed : List ℕ) → D.holds hasher.old fed →
+        D.holds hasher.new (fed ++ (((if graph.now.directed then 1
+        else 0) ∷ []) ++ to_be_bytes w32 (size graph.now) ++ to_be_bytes w32
+        (length graph.now.edges))) }
 {
     hasher.update([u8::from(graph.directed())]);
     hasher.update(graph.n().to_be_bytes());
@@ -32,7 +35,8 @@ fn feed_head<D: Digest>(hasher: &mut D, graph: &Graph)
 
 /// Feeds the identifiers.
 fn feed_ids<D: Digest>(hasher: &mut D, graph: &Graph)
-    ensures { (fed : List ℕ) → D.holds hasher.old fed → D.holds hasher.new (fed ++ flat_map (to_be_bytes w64) graph.now.ids) }
+    ensures { (fed : List ℕ) → D.holds hasher.old fed →
+        D.holds hasher.new (fed ++ flat_map (to_be_bytes w64) graph.now.ids) }
 {
     for v in 0..graph.n() {
         hasher.update(graph.id(Vertex(v)).to_be_bytes());
@@ -41,7 +45,8 @@ fn feed_ids<D: Digest>(hasher: &mut D, graph: &Graph)
 
 /// Feeds the edges.
 fn feed_edges<D: Digest>(hasher: &mut D, graph: &Graph)
-    ensures { (fed : List ℕ) → D.holds hasher.old fed → D.holds hasher.new (fed ++ flat_map edge_bytes graph.now.edges) }
+    ensures { (fed : List ℕ) → D.holds hasher.old fed →
+        D.holds hasher.new (fed ++ flat_map edge_bytes graph.now.edges) }
 {
     for e in 0..graph.m() {
         let line = graph.edge(EdgeNo(e));

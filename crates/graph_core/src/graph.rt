@@ -14,8 +14,8 @@ use gl_base::{EdgeLine, EdgeNo, MAX_EDGES, MAX_ID, MAX_VERTICES, NoMemory, Verte
 use std::alloc::Global;
 use std::marker::Model;
 
-/// A graph. Vertices are numbered by ascending identifier, and edges by ascending ends; an edge without
-/// direction has its lower vertex as `from`. Contracts see the data graph.
+/// A graph. Vertices are numbered by ascending identifier, and edges by ascending ends; an edge
+/// without direction has its lower vertex as `from`. Contracts see the data graph.
 #[derive(Drop)]
 pub struct Graph {
     directed: bool,
@@ -34,7 +34,8 @@ impl Model for Graph {
 
     ghost view = { λ g. data_graph g.directed g.ids.items g.edges.items };
 
-    ghost invariant = { λ g. AreGraphParts (data_graph g.directed g.ids.items g.edges.items) g.table g.halves };
+    ghost invariant = { λ g.
+        AreGraphParts (data_graph g.directed g.ids.items g.edges.items) g.table g.halves };
 }
 
 impl Graph {
@@ -46,9 +47,10 @@ impl Graph {
     ghost use Rattle.graph_core.specs.Neighbours.{neighbours_of};
     ghost use Rattle.graph_core.specs.Graphs.{HasEnds, IsEdgeLine};
 
-    /// The graph of a list of identifiers and a list of edges between them. It refuses first the least place
-    /// of an identifier that stands before it too; then the least place of an edge with an end that is no
-    /// identifier, with two equal ends, or that stands before it too, in this order.
+    /// The graph of a list of identifiers and a list of edges between them. It refuses first the
+    /// least place of an identifier that stands before it too; then the least place of an edge with
+    /// an end that is no identifier, with two equal ends, or that stands before it too, in this
+    /// order.
     pub fn build(
         alloc: Global,
         ids: Vec<u64>,
@@ -60,7 +62,8 @@ impl Graph {
         requires ids { All (λ id. id ≤ MAX_ID) ids.items }
         ensures graph { IfOk result (IsGraphOf ids.items edges.items directed) }
         ensures no_fault { OnOk result (graph_fault ids.items edges.items directed ≡ None) }
-        ensures fault { IfErr result (NamesFirstFault (graph_fault ids.items edges.items directed)) }
+        ensures fault { IfErr result
+            (NamesFirstFault (graph_fault ids.items edges.items directed)) }
     {
         let ids = sorted_ids(alloc, ids)?;
         let table = IdTable::new(alloc, &ids)?;
@@ -113,11 +116,12 @@ impl Graph {
         self.table.find(&self.ids, id)
     }
 
-    /// Lists the neighbours of a vertex, ascending, each once, in place of what the list had. After `NoMemory` the list
-    /// is unchanged.
+    /// Lists the neighbours of a vertex, ascending, each once, in place of what the list had. After
+    /// `NoMemory` the list is unchanged.
     pub fn list_neighbours(&self, v: Vertex, list: &mut Vec<Vertex>) -> Result<(), NoMemory>
         requires { v.0 < size self.now }
-        ensures neighbours { OnOk result (map (λ u. u.0) list.new.items ≡ neighbours_of self.now v.0) }
+        ensures neighbours { OnOk result (map (λ u.
+            u.0) list.new.items ≡ neighbours_of self.now v.0) }
         ensures unchanged { OnErr result (list.new.items ≡ list.old.items) }
     {
         list_neighbours(list, self.halves.row(v.0 as usize))?;

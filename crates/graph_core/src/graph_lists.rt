@@ -11,7 +11,8 @@ pub struct EdgeIn {
     pub weight: u32,
 }
 
-/// The first fault of the lists of a graph. Places count from 0 in the list of identifiers or of edges.
+/// The first fault of the lists of a graph. Places count from 0 in the list of identifiers or of
+/// edges.
 #[derive(Clone, Copy, Debug, PartialEq, Eq, Error)]
 pub enum GraphFault {
     /// The identifier at this place stands before it too.

@@ -8,9 +8,9 @@ use crate::Graph;
 use gl_base::{NoMemory, Vertex};
 use std::alloc::Global;
 
-/// The vertices in the order of growth. It begins at the first vertex, takes vertices off the front of a queue, and lists
-/// the neighbours of each that are not listed yet, ascending. Where the queue is empty it goes on at the least vertex that
-/// is not listed.
+/// The vertices in the order of growth. It begins at the first vertex, takes vertices off the front
+/// of a queue, and lists the neighbours of each that are not listed yet, ascending. Where the queue
+/// is empty it goes on at the least vertex that is not listed.
 pub fn growth(alloc: Global, graph: &Graph, first: Vertex) -> Result<Vec<Vertex>, NoMemory>
     requires { 0 < size graph.now → first.0 < size graph.now }
     ensures order { IfOk result (λ order. numbers_of order.items ≡ growth_order graph.now first.0) }
@@ -61,8 +61,11 @@ fn list_from(
     requires room { length marks.old ≡ size graph.now }
     requires marks { AreMarks (numbers_of listed.old.items) marks.old }
     ensures marks { OnOk result (AreMarks (numbers_of listed.new.items) marks.new) }
-    ensures grown { OnOk result ((first : ℕ) → IsNextSeed graph.now first seed.0 (numbers_of listed.old.items) marks.old → numbers_of listed.new.items ≡ listed_after graph.now first (length listed.new.items)) }
-    ensures kept { OnOk result ((v : ℕ) → slice_index_or marks.old v false ≡ true → slice_index_or marks.new v false ≡ true) }
+    ensures grown { OnOk result ((first : ℕ) →
+        IsNextSeed graph.now first seed.0 (numbers_of listed.old.items) marks.old →
+        numbers_of listed.new.items ≡ listed_after graph.now first (length listed.new.items)) }
+    ensures kept { OnOk result ((v : ℕ) → slice_index_or marks.old v false ≡ true →
+        slice_index_or marks.new v false ≡ true) }
     ensures seed { OnOk result (slice_index_or marks.new seed.0 false ≡ true) }
 {
     if marks[seed.0 as usize] {
@@ -88,9 +91,11 @@ fn list_around(
     requires inside { place < length listed.old.items }
     requires room { length marks.old ≡ size graph.now }
     requires marks { AreMarks (numbers_of listed.old.items) marks.old }
-    ensures listed { OnOk result (numbers_of listed.new.items ≡ extended graph.now place (numbers_of listed.old.items)) }
+    ensures listed { OnOk result
+        (numbers_of listed.new.items ≡ extended graph.now place (numbers_of listed.old.items)) }
     ensures marks { OnOk result (AreMarks (numbers_of listed.new.items) marks.new) }
-    ensures kept { OnOk result ((v : ℕ) → slice_index_or marks.old v false ≡ true → slice_index_or marks.new v false ≡ true) }
+    ensures kept { OnOk result ((v : ℕ) → slice_index_or marks.old v false ≡ true →
+        slice_index_or marks.new v false ≡ true) }
 {
     graph.list_neighbours(listed[place], around)?;
     list_new(around, listed, marks)
@@ -105,9 +110,12 @@ fn list_new(
     requires inside { All (λ v. v.0 < length marks.old) vertices.now }
     requires ascending { AllPairs (λ u v. u < v) (numbers_of vertices.now) }
     requires marks { AreMarks (numbers_of listed.old.items) marks.old }
-    ensures listed { OnOk result (numbers_of listed.new.items ≡ numbers_of listed.old.items ++ unlisted (numbers_of listed.old.items) (numbers_of vertices.now)) }
+    ensures listed { OnOk result
+        (numbers_of listed.new.items ≡ numbers_of listed.old.items ++ unlisted
+        (numbers_of listed.old.items) (numbers_of vertices.now)) }
     ensures marks { OnOk result (AreMarks (numbers_of listed.new.items) marks.new) }
-    ensures kept { OnOk result ((v : ℕ) → slice_index_or marks.old v false ≡ true → slice_index_or marks.new v false ≡ true) }
+    ensures kept { OnOk result ((v : ℕ) → slice_index_or marks.old v false ≡ true →
+        slice_index_or marks.new v false ≡ true) }
 {
     for vertex in vertices {
         list_one(*vertex, listed, marks)?;
@@ -119,9 +127,12 @@ fn list_new(
 fn list_one(vertex: Vertex, listed: &mut Vec<Vertex>, marks: &mut [bool]) -> Result<(), NoMemory>
     requires inside { vertex.0 < length marks.old }
     requires marks { AreMarks (numbers_of listed.old.items) marks.old }
-    ensures listed { OnOk result (numbers_of listed.new.items ≡ numbers_of listed.old.items ++ unlisted (numbers_of listed.old.items) (vertex.0 ∷ [])) }
+    ensures listed { OnOk result
+        (numbers_of listed.new.items ≡ numbers_of listed.old.items ++ unlisted
+        (numbers_of listed.old.items) (vertex.0 ∷ [])) }
     ensures marks { OnOk result (AreMarks (numbers_of listed.new.items) marks.new) }
-    ensures kept { OnOk result ((v : ℕ) → slice_index_or marks.old v false ≡ true → slice_index_or marks.new v false ≡ true) }
+    ensures kept { OnOk result ((v : ℕ) → slice_index_or marks.old v false ≡ true →
+        slice_index_or marks.new v false ≡ true) }
     ensures marked { OnOk result (slice_index_or marks.new vertex.0 false ≡ true) }
 {
     if marks[vertex.0 as usize] {

@@ -22,7 +22,9 @@ pub fn half_rows(
     requires few_edges { length edges.now < 2 ^ 31 }
     requires edges { All (IsEdge count directed) (map data_edge edges.now) }
     ensures len { IfOk result (λ rows. length rows ≡ count) }
-    ensures each { IfOk result (λ rows. (v : ℕ) → v < count → map data_half (slice_index_or rows v []) ≡ halves_from directed v 0 (map data_edge edges.now)) }
+    ensures each { IfOk result (λ rows. (v : ℕ) → v < count →
+        map data_half (slice_index_or rows v []) ≡ halves_from directed v 0
+        (map data_edge edges.now)) }
 {
     Rows::group(alloc, count, &HalvesOf { edges, directed })
 }

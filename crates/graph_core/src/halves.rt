@@ -5,8 +5,8 @@ use crate::edges::Edge;
 use crate::rows::Keyed;
 use gl_base::{EdgeNo, Vertex};
 
-/// An edge at a vertex: its number, its other end, its weight, and whether it leads out of the vertex and
-/// into it. An edge without direction does both.
+/// An edge at a vertex: its number, its other end, its weight, and whether it leads out of the
+/// vertex and into it. An edge without direction does both.
 #[derive(Clone, Copy)]
 pub struct Half {
     pub edge: EdgeNo,

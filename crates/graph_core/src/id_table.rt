@@ -6,8 +6,8 @@ ghost use Rattle.graph_core.specs.IdTable.{AreRanges, IsFormOf, IsTableOf, IsVer
 use gl_base::{MAX_ID, NoMemory, Vertex};
 use std::alloc::Global;
 
-/// Where the identifiers of an ascending list stand in it. The list itself stays with its owner, who
-/// hands it to each call.
+/// Where the identifiers of an ascending list stand in it. The list itself stays with its owner,
+/// who hands it to each call.
 #[derive(Drop)]
 pub struct IdTable {
     form: Form,
@@ -101,7 +101,8 @@ impl Ranges {
         requires ascending { Ascends ids.now }
         requires ids { All (λ id. id ≤ MAX_ID) ids.now }
         requires shift { shift < 64 }
-        ensures { IfOk result (λ ranges. AreRanges ids.now ranges.least ranges.shift ranges.starts.items) }
+        ensures { IfOk result (λ ranges.
+            AreRanges ids.now ranges.least ranges.shift ranges.starts.items) }
     {
         let least = ids[0];
         let mut starts = Vec::new(alloc);

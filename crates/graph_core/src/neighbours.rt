@@ -9,7 +9,8 @@ use crate::halves::Half;
 use crate::sorting::rises;
 use gl_base::{NoMemory, Vertex};
 
-/// Lists the other ends of half-edges, each once, ascending. After `NoMemory` the list is unchanged.
+/// Lists the other ends of half-edges, each once, ascending. After `NoMemory` the list is
+/// unchanged.
 pub fn list_neighbours(list: &mut Vec<Vertex>, halves: &[Half]) -> Result<(), NoMemory>
     ensures others { OnOk result (AreOthers halves.now list.new.items) }
     ensures unchanged { OnErr result (list.new.items ≡ list.old.items) }
@@ -32,7 +33,8 @@ fn list_others(list: &mut Vec<Vertex>, halves: &[Half]) -> Result<(), NoMemory>
     Ok(())
 }
 
-/// Puts the vertices in order, and each one once. Those of a graph without direction are so already.
+/// Puts the vertices in order, and each one once. Those of a graph without direction are so
+/// already.
 pub fn make_distinct(list: &mut Vec<Vertex>)
     ensures { AreDistinctOf (numbers_of list.old.items) (numbers_of list.new.items) }
 {

@@ -52,8 +52,8 @@ impl<T> Model for Rows<T> {
 }
 
 impl<T: Copy> Rows<T> {
-    /// For each key below `count`, the items that have it, in their order. It needs two passes over the
-    /// items, and keeps no second copy of them.
+    /// For each key below `count`, the items that have it, in their order. It needs two passes over
+    /// the items, and keeps no second copy of them.
     pub fn group<K: Keyed<Item = T>>(
         alloc: Global,
         count: usize,
@@ -63,7 +63,8 @@ impl<T: Copy> Rows<T> {
         requires few_items { length (K.list keyed.now) < 2 ^ 32 }
         requires keys { All (λ pair. pair.0 < count) (K.list keyed.now) }
         ensures count { IfOk result (λ rows. length rows ≡ count) }
-        ensures each { IfOk result (λ rows. (k : ℕ) → k < count → slice_index_or rows k [] ≡ with_key k (K.list keyed.now)) }
+        ensures each { IfOk result (λ rows. (k : ℕ) → k < count →
+            slice_index_or rows k [] ≡ with_key k (K.list keyed.now)) }
     {
         let mut starts = row_ends(alloc, count, keyed)?;
         let items = placed(alloc, &mut starts, keyed)?;
@@ -80,7 +81,8 @@ impl<T: Copy> Rows<T> {
         Ok(Rows { starts, items })
     }
 
-    /// One more row behind the others. More than 4,294,967,295 items find no memory. After `NoMemory` the rows are unchanged.
+    /// One more row behind the others. More than 4,294,967,295 items find no memory. After
+    /// `NoMemory` the rows are unchanged.
     pub fn push(&mut self, row: &[T]) -> Result<(), NoMemory>
         ensures pushed { OnOk result (self.new ≡ self.old ++ row.now ∷ []) }
         ensures unchanged { OnErr result (self.new ≡ self.old) }
@@ -119,7 +121,8 @@ impl<T> Rows<T> {
 fn part<'a, T>(starts: &[u32], items: &'a [T], k: usize) -> &'a [T]
     requires starts { AreStarts starts.now (length items.now) }
     requires k { k + 1 < length starts.now }
-    ensures { result.now ≡ slice_range items.now (slice_index starts.now k) (slice_index starts.now (k + 1)) }
+    ensures { result.now ≡ slice_range items.now (slice_index starts.now k)
+        (slice_index starts.now (k + 1)) }
 {
     let start = starts[k] as usize;
     let end = starts[k + 1] as usize;
@@ -132,7 +135,8 @@ fn row_ends<K: Keyed>(alloc: Global, count: usize, keyed: &K) -> Result<Vec<u32>
     requires few_items { length (K.list keyed.now) < 2 ^ 32 }
     requires keys { All (λ pair. pair.0 < count) (K.list keyed.now) }
     ensures len { IfOk result (λ ends. length ends.items ≡ count + 1) }
-    ensures ends { IfOk result (λ ends. (k : ℕ) → k < count + 1 → slice_index ends.items k ≡ count_below (suc k) (K.list keyed.now)) }
+    ensures ends { IfOk result (λ ends. (k : ℕ) → k < count + 1 →
+        slice_index ends.items k ≡ count_below (suc k) (K.list keyed.now)) }
 {
     let mut counts = Vec::from_elem(alloc, 0, count + 1)?;
     let ends = counts.as_mut_slice();
@@ -144,7 +148,8 @@ fn row_ends<K: Keyed>(alloc: Global, count: usize, keyed: &K) -> Result<Vec<u32>
 /// The items row by row. Each row begins at its start in the end.
 fn placed<K: Keyed>(alloc: Global, starts: &mut [u32], keyed: &K) -> Result<Vec<K::Item>, NoMemory>
     requires keys { All (λ pair. pair.0 < length starts.old) (K.list keyed.now) }
-    requires ends { (k : ℕ) → k < length starts.old → slice_index starts.old k ≡ count_below (suc k) (K.list keyed.now) }
+    requires ends { (k : ℕ) → k < length starts.old →
+        slice_index starts.old k ≡ count_below (suc k) (K.list keyed.now) }
     ensures len { IfOk result (λ items. length items.items ≡ length (K.list keyed.now)) }
     ensures rows { IfOk result (λ items. AreRowsFrom 0 (K.list keyed.now) starts.new items.items) }
 {
@@ -158,7 +163,8 @@ fn count_keys<K: Keyed>(starts: &mut [u32], keyed: &K)
     requires few { length (K.list keyed.now) < 2 ^ 32 }
     requires keys { All (λ pair. pair.0 < length starts.old) (K.list keyed.now) }
     requires none { (k : ℕ) → slice_index starts.old k ≡ 0 }
-    ensures { (k : ℕ) → k < length starts.new → slice_index starts.new k ≡ length (with_key k (K.list keyed.now)) }
+    ensures { (k : ℕ) → k < length starts.new →
+        slice_index starts.new k ≡ length (with_key k (K.list keyed.now)) }
 {
     for place in 0..keyed.len() {
         let (key, _) = keyed.at(place);
@@ -169,7 +175,8 @@ fn count_keys<K: Keyed>(starts: &mut [u32], keyed: &K)
 /// Turns how many items each key has into where its row ends.
 fn sum_up(starts: &mut [u32])
     requires { sum starts.old < 2 ^ 32 }
-    ensures { (k : ℕ) → k < length starts.old → slice_index starts.new k ≡ sum (take (k + 1) starts.old) }
+    ensures { (k : ℕ) → k < length starts.old →
+        slice_index starts.new k ≡ sum (take (k + 1) starts.old) }
 {
     for k in 1..starts.len() {
         starts[k] += starts[k - 1];
@@ -187,11 +194,12 @@ fn room_for<K: Keyed>(alloc: Global, keyed: &K) -> Result<Vec<K::Item>, NoMemory
     Ok(Vec::from_elem(alloc, any, keyed.len())?)
 }
 
-/// Puts each item before the start of its row, the last item first, in parts of the rows one after another. So each row
-/// begins at its start in the end.
+/// Puts each item before the start of its row, the last item first, in parts of the rows one after
+/// another. So each row begins at its start in the end.
 fn place_items<K: Keyed>(starts: &mut [u32], items: &mut [K::Item], keyed: &K)
     requires keys { All (λ pair. pair.0 < length starts.old) (K.list keyed.now) }
-    requires ends { AreRowsFrom (length (K.list keyed.now)) (K.list keyed.now) starts.old items.old }
+    requires ends { AreRowsFrom (length (K.list keyed.now))
+        (K.list keyed.now) starts.old items.old }
     requires room { length items.old ≡ length (K.list keyed.now) }
     ensures { AreRowsFrom 0 (K.list keyed.now) starts.new items.new }
 {
@@ -214,8 +222,11 @@ fn place_part<K: Keyed>(
 )
     requires keys { All (λ pair. pair.0 < length starts.old) (K.list keyed.now) }
     requires room { length items.old ≡ length (K.list keyed.now) }
-    requires before { AreRowsAt (place_in low high (length (K.list keyed.now)) (length (K.list keyed.now))) (K.list keyed.now) starts.old items.old }
-    ensures rows { AreRowsAt (place_in low high 0 (length (K.list keyed.now))) (K.list keyed.now) starts.new items.new }
+    requires before { AreRowsAt
+        (place_in low high (length (K.list keyed.now)) (length (K.list keyed.now)))
+        (K.list keyed.now) starts.old items.old }
+    ensures rows { AreRowsAt (place_in low high 0 (length (K.list keyed.now)))
+        (K.list keyed.now) starts.new items.new }
 {
     let mut place = keyed.len();
     while place > 0 {
@@ -230,8 +241,8 @@ fn place_part<K: Keyed>(
     }
 }
 
-/// In how many parts the rows are filled: in one where keys that stand near one another are near one another, or where
-/// the items are few, since then what is written lies together.
+/// In how many parts the rows are filled: in one where keys that stand near one another are near
+/// one another, or where the items are few, since then what is written lies together.
 fn parts_of<K: Keyed>(keyed: &K) -> usize {
     if keyed.len() < MANY || !lie_apart(keyed) {
         return 1;
@@ -239,8 +250,8 @@ fn parts_of<K: Keyed>(keyed: &K) -> usize {
     keyed.len() / MANY
 }
 
-/// Whether more than a quarter of some keys, at places that are spread over the list, are far from all that stand behind
-/// them.
+/// Whether more than a quarter of some keys, at places that are spread over the list, are far from
+/// all that stand behind them.
 fn lie_apart<K: Keyed>(keyed: &K) -> bool {
     let step = keyed.len() / SAMPLES;
     let mut left = SAMPLES / 4;

@@ -55,8 +55,8 @@ pub fn sorted<T: HasKey>(alloc: Global, items: Vec<T>) -> Result<Vec<T>, OrNoMem
     }
 }
 
-/// Puts the items in the order of their keys. Keys that seldom fall are long runs, which a stable sort keeps; on keys in
-/// no order the unstable one is faster.
+/// Puts the items in the order of their keys. Keys that seldom fall are long runs, which a stable
+/// sort keeps; on keys in no order the unstable one is faster.
 fn sort<T: HasKey>(items: &mut Vec<T>) -> Result<(), NoMemory>
     ensures same { IsPermutation items.old.items items.new.items }
     ensures up { OnOk result (IsNonDecreasingBy T.key items.new.items) }
@@ -97,7 +97,9 @@ pub fn rises<T: HasKey>(items: &[T]) -> bool
 
 /// The first place whose key stands before it too.
 fn first_double<T: HasKey>(alloc: Global, items: &[T]) -> Result<Option<usize>, NoMemory>
-    ensures { IfOk result (λ found. MatchOption found (IsDistinct nat_eq (map T.key items.now)) (IsFirstDouble (map T.key items.now))) }
+    ensures { IfOk result (λ found.
+        MatchOption found (IsDistinct nat_eq (map T.key items.now))
+        (IsFirstDouble (map T.key items.now))) }
 {
     let mut seen = BTreeSet::new(alloc);
     for place in 0..items.len() {

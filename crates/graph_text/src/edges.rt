@@ -20,16 +20,19 @@ use std::alloc::Global;
 
 const FILE: TextFile = TextFile::Edges;
 
-/// Reads an edge text to its end, and builds the graph of its edges between the vertices of the list. A line has two
-/// identifiers and, where `weighted`, a weight from 0 to 4294967295, which may end in a point and zeros; further fields
-/// are passed over, and where edges have no weight theirs is 1. The lines need no order. Blanks and tabs, a CR at the
-/// end of a line, zeros before a number, lines without a field and lines that begin with `#` are passed over.
+/// Reads an edge text to its end, and builds the graph of its edges between the vertices of the
+/// list. A line has two identifiers and, where `weighted`, a weight from 0 to 4294967295, which may
+/// end in a point and zeros; further fields are passed over, and where edges have no weight theirs
+/// is 1. The lines need no order. Blanks and tabs, a CR at the end of a line, zeros before a
+/// number, lines without a field and lines that begin with `#` are passed over.
 ///
-/// A text is refused at its first faulty line, and there for the first of `Fields` (fewer than two fields), `Number` and
+/// A text is refused at its first faulty line, and there for the first of `Fields` (fewer than two
+/// fields), `Number` and
 /// `TooLarge` (of an identifier), `Unknown` (an identifier that is no vertex), `SelfLoop`, `NoWeight`, `Number` and
 /// `TooLarge` (of the weight), `Double` (the edge stood in an earlier line, either way round where it has no direction)
-/// and `TooMany` (more than 4,194,304 of them); as `TooLong` where it has more than 1,073,741,824 bytes, and no line that
-/// ends within them is faulty. The source keeps what was taken, whatever is answered.
+/// and `TooMany` (more than 4,194,304 of them); as `TooLong` where it has more than 1,073,741,824
+/// bytes, and no line that ends within them is faulty. The source keeps what was taken, whatever is
+/// answered.
 pub fn read_edges<S: Source>(
     alloc: Global,
     source: &mut S,
@@ -37,7 +40,8 @@ pub fn read_edges<S: Source>(
     directed: bool,
     weighted: bool,
 ) -> Result<Graph, Reading>
-    ensures answer { ReadsGraph list.ids.items directed weighted result (S.left source.old) (S.faults source.old) (S.faults source.new) }
+    ensures answer { ReadsGraph list.ids.items directed weighted result (S.left source.old)
+        (S.faults source.old) (S.faults source.new) }
     ensures taken { (taken : List ℕ) × Consumes (S.left source.old) (S.left source.new) taken }
     ensures later { S.faults source.old ≤ S.faults source.new }
     ensures same { S.same source.old source.new }

@@ -1,4 +1,5 @@
-//! The lines of graph texts, read from any source in pieces of any size, and what each of them says.
+//! The lines of graph texts, read from any source in pieces of any size, and what each of them
+//! says.
 
 mod fields;
 mod items;

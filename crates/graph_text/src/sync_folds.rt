@@ -1,4 +1,5 @@
-//! Folds of the numbers of vertices: how many were reached, what their numbers add up to, and the greatest of them.
+//! Folds of the numbers of vertices: how many were reached, what their numbers add up to, and the
+//! greatest of them.
 
 mod folds;
 mod laws;

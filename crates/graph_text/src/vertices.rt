@@ -18,16 +18,18 @@ use std::alloc::Global;
 
 const FILE: TextFile = TextFile::Vertices;
 
-/// Reads a vertex text to its end: lines of one identifier each, from 0 to 9223372036854775806, in any order and with
-/// any zeros before it. Blanks and tabs around it, a CR at the end of a line, lines without a field and lines that begin
-/// with `#` are passed over. The list ascends.
+/// Reads a vertex text to its end: lines of one identifier each, from 0 to 9223372036854775806, in
+/// any order and with any zeros before it. Blanks and tabs around it, a CR at the end of a line,
+/// lines without a field and lines that begin with `#` are passed over. The list ascends.
 ///
-/// A text is refused at its first faulty line, and there for the first of `Fields` (not exactly one field), `Number` (a
-/// byte that isn't a digit), `TooLarge`, `Double` (the identifier stood in an earlier line) and `TooMany` (more than
-/// 1,048,576 of them); as `TooLong` where it has more than 1,073,741,824 bytes, and no line that ends within them is
-/// faulty. The source keeps what was taken, whatever is answered.
+/// A text is refused at its first faulty line, and there for the first of `Fields` (not exactly one
+/// field), `Number` (a byte that isn't a digit), `TooLarge`, `Double` (the identifier stood in an
+/// earlier line) and `TooMany` (more than 1,048,576 of them); as `TooLong` where it has more than
+/// 1,073,741,824 bytes, and no line that ends within them is faulty. The source keeps what was
+/// taken, whatever is answered.
 pub fn read_vertices<S: Source>(alloc: Global, source: &mut S) -> Result<VertexList, Reading>
-    ensures answer { ReadsVertices result (S.left source.old) (S.faults source.old) (S.faults source.new) }
+    ensures answer { ReadsVertices result (S.left source.old)
+        (S.faults source.old) (S.faults source.new) }
     ensures taken { (taken : List ℕ) × Consumes (S.left source.old) (S.left source.new) taken }
     ensures later { S.faults source.old ≤ S.faults source.new }
     ensures same { S.same source.old source.new }

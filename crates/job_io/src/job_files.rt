@@ -1,4 +1,5 @@
-//! What is read before a verb does its work: the job's file, the two texts of its graph, and its atoms.
+//! What is read before a verb does its work: the job's file, the two texts of its graph, and its
+//! atoms.
 
 mod atoms;
 mod graphs;

@@ -1,4 +1,5 @@
-//! Links that threads share: each queue is taken, changed and given back whole, and tickets are drawn one by one.
+//! Links that threads share: each queue is taken, changed and given back whole, and tickets are
+//! drawn one by one.
 #![tactic(auto)]
 
 mod padding;

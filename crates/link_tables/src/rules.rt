@@ -1,4 +1,5 @@
-//! What a user says of parts and links, the rule of the table that follows, and what each step tells.
+//! What a user says of parts and links, the rule of the table that follows, and what each step
+//! tells.
 ghost use Rattle.std.specs.Prelude.{ℕ, List, Option, None, length};
 ghost use Rattle.link_tables.specs.Seats.{view, gone, first_alone, second_alone, together};
 ghost use Rattle.link_tables.specs.Rule.{HoldsTable};
@@ -17,7 +18,8 @@ pub trait LinkRule<P, Q, K> {
     /// Nothing is on the link.
     ghost empty: { Q → Type 0 };
 
-    /// Parts, in the order of their numbers, links, the next ticket and how many are left: to these the steps so far have led.
+    /// Parts, in the order of their numbers, links, the next ticket and how many are left: to these
+    /// the steps so far have led.
     ghost led: { K → List P → List Q → ℕ → ℕ → Type 0 };
 
     /// What a seat with this part learns of a link that it takes.
@@ -50,7 +52,8 @@ pub struct Law<K, R> {
 }
 
 impl<P, Q, K, R: LinkRule<P, Q, K>> TableRule<Padded<Q>, View<P, Q>, Start<K>> for Law<K, R> {
-    ghost holds = { λ k. HoldsTable R.number_of R.empty (R.led k.about) k.many k.top (length (R.first k.about)) };
+    ghost holds = { λ k.
+        HoldsTable R.number_of R.empty (R.led k.about) k.many k.top (length (R.first k.about)) };
 
     ghost first = { λ k. view (R.first k.about) None 0 (0, 0) };
 }

@@ -26,7 +26,8 @@ pub struct LinkTable<P, Q: Drop, K: Drop, R: LinkRule<P, Q, K>> {
     room: Vec<Q>,
     ghost empty_room: { (vec_len room ≡ 0) × (room.items ≡ []) × (many ≤ vec_capacity room) },
     ghost told: { (table.shared.key.many ≡ many) × (table.shared.key.top ≡ top) },
-    ghost sized: { (table.shared.table_id.words ≡ word_at (many + 2)) × (table.shared.table_id.slots ≡ many) × (many < 2 ^ 24) },
+    ghost sized: { (table.shared.table_id.words ≡ word_at (many + 2)) ×
+        (table.shared.table_id.slots ≡ many) × (many < 2 ^ 24) },
 }
 
 /// What a thread makes its steps with: a seat at a table.
@@ -36,7 +37,8 @@ pub struct Place<P, Q: Drop> {
 }
 
 impl<P, Q: Drop, K: Drop, R: LinkRule<P, Q, K>> LinkTable<P, Q, K, R> {
-    /// Makes a table of these links with this next ticket and so many left, and one place, which has all parts.
+    /// Makes a table of these links with this next ticket and so many left, and one place, which
+    /// has all parts.
     /// `NoMemory` drops the links.
     pub fn new(
         alloc: Global,
@@ -46,9 +48,13 @@ impl<P, Q: Drop, K: Drop, R: LinkRule<P, Q, K>> LinkTable<P, Q, K, R> {
         about: K,
     ) -> Result<(LinkTable<P, Q, K, R>, Place<P, Q>), NoMemory>
         requires few { (next + left < 2 ^ 64) × (length links.items < 2 ^ 24) }
-        requires led { (front : List P) × (last : P) × (R.first about ≡ last ∷ front) × AreInOrder R.number_of (front ++ last ∷ []) × R.led about (front ++ last ∷ []) links.items next left }
-        ensures facts { IfOk result (λ t. (t.0.many ≡ length links.items) × (t.0.top ≡ next + left) × (t.0.table.shared.key.about ≡ about)) }
-        ensures place { IfOk result (λ t. (t.1.seat.table_id ≡ t.0.table.shared.table_id) × (t.1.seat.me ≡ (view (R.first about) None 0 (0, 0), []))) }
+        requires led { (front : List P) × (last : P) × (R.first about ≡ last ∷ front) ×
+            AreInOrder R.number_of (front ++ last ∷ []) ×
+            R.led about (front ++ last ∷ []) links.items next left }
+        ensures facts { IfOk result (λ t. (t.0.many ≡ length links.items) ×
+            (t.0.top ≡ next + left) × (t.0.table.shared.key.about ≡ about)) }
+        ensures place { IfOk result (λ t. (t.1.seat.table_id ≡ t.0.table.shared.table_id) ×
+            (t.1.seat.me ≡ (view (R.first about) None 0 (0, 0), []))) }
     {
         let many = links.len();
         let top = next + left;
@@ -74,8 +80,12 @@ impl<P, Q: Drop, K: Drop, R: LinkRule<P, Q, K>> LinkTable<P, Q, K, R> {
     /// Closes the table and returns its links and the next ticket. The place has all parts.
     pub fn close(self, place: Place<P, Q>) -> (Vec<Q>, u64)
         requires table { place.seat.table_id ≡ self.table.shared.table_id }
-        requires all { (place.seat.me.0.link ≡ None) × AllHere R.number_of (length (R.first self.table.shared.key.about)) place.seat.me.0.parts }
-        ensures ended { (left : ℕ) × (result.1 + left ≡ self.top) × Ended R.number_of (R.led self.table.shared.key.about) place.seat.me.0.parts result.0.items result.1 left }
+        requires all { (place.seat.me.0.link ≡ None) ×
+            AllHere R.number_of (length (R.first self.table.shared.key.about))
+            place.seat.me.0.parts }
+        ensures ended { (left : ℕ) × (result.1 + left ≡ self.top) ×
+            Ended R.number_of (R.led self.table.shared.key.about) place.seat.me.0.parts
+            result.0.items result.1 left }
     {
         let LinkTable {
             table,
@@ -114,7 +124,8 @@ impl<P, Q: Drop, K: Drop, R: LinkRule<P, Q, K>> LinkTable<P, Q, K, R> {
         requires table { place.old.seat.table_id ≡ self.now.table.shared.table_id }
         requires link { link < self.now.many }
         ensures table { place.new.seat.table_id ≡ place.old.seat.table_id }
-        ensures found { place.new.seat.me ≡ (saw place.old.seat.me.0 (word_at link) (number_in result), place.old.seat.me.1) }
+        ensures found { place.new.seat.me ≡
+            (saw place.old.seat.me.0 (word_at link) (number_in result), place.old.seat.me.1) }
     {
         let shared = &self.table.shared;
         LinkWord::of(shared.load::<LookAtLink>(&mut place.seat, word_place(link)))
@@ -124,7 +135,10 @@ impl<P, Q: Drop, K: Drop, R: LinkRule<P, Q, K>> LinkTable<P, Q, K, R> {
     pub fn next_ticket(&self, place: &mut Place<P, Q>) -> u64
         requires table { place.old.seat.table_id ≡ self.now.table.shared.table_id }
         ensures table { place.new.seat.table_id ≡ place.old.seat.table_id }
-        ensures found { place.new.seat.me ≡ (saw place.old.seat.me.0 (word_at self.now.many) result, place.old.seat.me.1) }
+        ensures found { place.new.seat.me ≡ (
+          saw place.old.seat.me.0 (word_at self.now.many) result,
+          place.old.seat.me.1,
+        ) }
     {
         let word = word_place(self.many);
         self.table.shared.load::<Look>(&mut place.seat, word)
@@ -134,7 +148,11 @@ impl<P, Q: Drop, K: Drop, R: LinkRule<P, Q, K>> LinkTable<P, Q, K, R> {
     pub fn is_halted(&self, place: &mut Place<P, Q>) -> bool
         requires table { place.old.seat.table_id ≡ self.now.table.shared.table_id }
         ensures table { place.new.seat.table_id ≡ place.old.seat.table_id }
-        ensures found { (number : ℕ) × (place.new.seat.me ≡ (saw place.old.seat.me.0 (word_at (self.now.many + 1)) number, place.old.seat.me.1)) × (result ≡ true → number ≢ 0) × (result ≡ false → number ≡ 0) }
+        ensures found { (number : ℕ) ×
+            (place.new.seat.me ≡ (
+              saw place.old.seat.me.0 (word_at (self.now.many + 1)) number,
+              place.old.seat.me.1,
+            )) × (result ≡ true → number ≢ 0) × (result ≡ false → number ≡ 0) }
         ensures own { result ≡ false → place.old.seat.me.0.raised ≡ 0 }
     {
         let word = word_place(self.many + 1);
@@ -145,14 +163,19 @@ impl<P, Q: Drop, K: Drop, R: LinkRule<P, Q, K>> LinkTable<P, Q, K, R> {
     pub fn raise(&self, place: &mut Place<P, Q>)
         requires table { place.old.seat.table_id ≡ self.now.table.shared.table_id }
         ensures table { place.new.seat.table_id ≡ place.old.seat.table_id }
-        ensures raised { place.new.seat.me ≡ (view place.old.seat.me.0.parts place.old.seat.me.0.link (suc place.old.seat.me.0.raised) place.old.seat.me.0.found, place.old.seat.me.1) }
+        ensures raised { place.new.seat.me ≡ (
+          view place.old.seat.me.0.parts place.old.seat.me.0.link
+              (suc place.old.seat.me.0.raised) place.old.seat.me.0.found,
+          place.old.seat.me.1,
+        ) }
     {
         let word = word_place(self.many + 1);
         self.table.shared.store::<Lift>(&mut place.seat, word, 1);
     }
 
-    /// Takes a link whose word is still the expected one, and returns the word that it found. The place has the link where that is
-    /// the expected one, and then its first part has become what is picked.
+    /// Takes a link whose word is still the expected one, and returns the word that it found. The
+    /// place has the link where that is the expected one, and then its first part has become what
+    /// is picked.
     pub fn take<B: Becomes<P>, T>(
         &self,
         place: &mut Place<P, Q>,
@@ -162,13 +185,25 @@ impl<P, Q: Drop, K: Drop, R: LinkRule<P, Q, K>> LinkTable<P, Q, K, R> {
     ) -> LinkWord
         requires table { place.old.seat.table_id ≡ self.now.table.shared.table_id }
         requires link { (link < self.now.many) × (expected ≢ Out) }
-        requires rests { (new : P) × (p : P) × (others : List P) × (B.part ≡ Some new) × Rests place.old.seat.me p others × (R.number_of new ≡ R.number_of p)
-            × Carries R.number_of (R.led self.now.table.shared.key.about) p new × Learnt R.number_of (R.led self.now.table.shared.key.about) R.learns new link }
+        requires rests { (new : P) × (p : P) × (others : List P) × (B.part ≡ Some new) ×
+            Rests place.old.seat.me p others × (R.number_of new ≡ R.number_of p)
+            × Carries R.number_of (R.led self.now.table.shared.key.about) p new ×
+            Learnt R.number_of (R.led self.now.table.shared.key.about) R.learns new link }
         ensures table { place.new.seat.table_id ≡ place.old.seat.table_id }
         ensures taken { result ≡ expected → (new : P) → B.part ≡ Some new → (q : Q)
-            × (place.new.seat.me ≡ (view (with_first new place.old.seat.me.0.parts) (Some (link, q)) place.old.seat.me.0.raised (word_at link, number_in result), (link, q) ∷ []))
+            × (place.new.seat.me ≡ (
+              view (with_first new place.old.seat.me.0.parts) (Some (
+                link,
+                q,
+              )) place.old.seat.me.0.raised (word_at link, number_in result),
+              (link, q) ∷ [],
+            ))
             × R.learns new link q }
-        ensures missed { result ≢ expected → place.new.seat.me ≡ (saw place.old.seat.me.0 (word_at link) (number_in result), place.old.seat.me.1) }
+        ensures missed { result ≢ expected →
+            place.new.seat.me ≡ (
+              saw place.old.seat.me.0 (word_at link) (number_in result),
+              place.old.seat.me.1,
+            ) }
     {
         let old = expected.number();
         let out = LinkWord::Out.number();
@@ -205,18 +240,25 @@ impl<P, Q: Drop, K: Drop, R: LinkRule<P, Q, K>> LinkTable<P, Q, K, R> {
     )
         requires table { place.old.seat.table_id ≡ self.now.table.shared.table_id }
         requires link { (link < self.now.many) × (word ≢ Out) }
-        requires holds { (new : P) × (p : P) × (others : List P) × (q : Q) × (r : Q) × (B.part ≡ Some new) × HoldsLink place.old.seat.me p others link q r
+        requires holds { (new : P) × (p : P) × (others : List P) × (q : Q) × (r : Q) ×
+            (B.part ≡ Some new) × HoldsLink place.old.seat.me p others link q r
             × (word ≡ Bare → R.empty r) × (R.number_of new ≡ R.number_of p)
             × CarriesLink R.number_of (R.led self.now.table.shared.key.about) link p q new r }
         ensures table { place.new.seat.table_id ≡ place.old.seat.table_id }
-        ensures given { (new : P) → B.part ≡ Some new → place.new.seat.me ≡ (view (with_first new place.old.seat.me.0.parts) None place.old.seat.me.0.raised place.old.seat.me.0.found, []) }
+        ensures given { (new : P) → B.part ≡ Some new →
+            place.new.seat.me ≡ (
+              view (with_first new place.old.seat.me.0.parts) None
+                  place.old.seat.me.0.raised place.old.seat.me.0.found,
+              [],
+            ) }
     {
         let number = word.number();
         let shared = &self.table.shared;
         shared.store::<Give<B>>(&mut place.seat, word_place(link), number);
     }
 
-    /// Draws this ticket where it is still the next one, and says whether it has. The place's first part has become what is picked then.
+    /// Draws this ticket where it is still the next one, and says whether it has. The place's first
+    /// part has become what is picked then.
     pub fn draw<B: Becomes<P>, T, U>(
         &self,
         place: &mut Place<P, Q>,
@@ -226,12 +268,18 @@ impl<P, Q: Drop, K: Drop, R: LinkRule<P, Q, K>> LinkTable<P, Q, K, R> {
     ) -> bool
         requires table { place.old.seat.table_id ≡ self.now.table.shared.table_id }
         requires ticket { ticket < self.now.top }
-        requires rests { (new : P) × (p : P) × (others : List P) × (B.part ≡ Some new) × Rests place.old.seat.me p others × (R.number_of new ≡ R.number_of p)
+        requires rests { (new : P) × (p : P) × (others : List P) × (B.part ≡ Some new) ×
+            Rests place.old.seat.me p others × (R.number_of new ≡ R.number_of p)
             × CarriesTicket R.number_of (R.led self.now.table.shared.key.about) ticket p new }
         ensures table { place.new.seat.table_id ≡ place.old.seat.table_id }
         ensures drawn { result ≡ true → (new : P) → B.part ≡ Some new
-            → place.new.seat.me ≡ (view (with_first new place.old.seat.me.0.parts) None place.old.seat.me.0.raised (word_at self.now.many, ticket), []) }
-        ensures late { result ≡ false → (number : ℕ) × (number ≢ ticket) × (place.new.seat.me ≡ (saw place.old.seat.me.0 (word_at self.now.many) number, [])) }
+            → place.new.seat.me ≡ (
+              view (with_first new place.old.seat.me.0.parts) None place.old.seat.me.0.raised
+                  (word_at self.now.many, ticket),
+              [],
+            ) }
+        ensures late { result ≡ false → (number : ℕ) × (number ≢ ticket) ×
+            (place.new.seat.me ≡ (saw place.old.seat.me.0 (word_at self.now.many) number, [])) }
     {
         let word = word_place(self.many);
         let shared = &self.table.shared;
@@ -241,11 +289,16 @@ impl<P, Q: Drop, K: Drop, R: LinkRule<P, Q, K>> LinkTable<P, Q, K, R> {
     /// Reads the next ticket. The place's first part has become what is picked.
     pub fn settle<B: Becomes<P>, T>(&self, place: &mut Place<P, Q>, _from: &T) -> u64
         requires table { place.old.seat.table_id ≡ self.now.table.shared.table_id }
-        requires rests { (new : P) × (p : P) × (others : List P) × (B.part ≡ Some new) × Rests place.old.seat.me p others × (R.number_of new ≡ R.number_of p)
+        requires rests { (new : P) × (p : P) × (others : List P) × (B.part ≡ Some new) ×
+            Rests place.old.seat.me p others × (R.number_of new ≡ R.number_of p)
             × Carries R.number_of (R.led self.now.table.shared.key.about) p new }
         ensures table { place.new.seat.table_id ≡ place.old.seat.table_id }
         ensures settled { (new : P) → B.part ≡ Some new
-            → place.new.seat.me ≡ (view (with_first new place.old.seat.me.0.parts) None place.old.seat.me.0.raised (word_at self.now.many, result), []) }
+            → place.new.seat.me ≡ (
+              view (with_first new place.old.seat.me.0.parts) None place.old.seat.me.0.raised
+                  (word_at self.now.many, result),
+              [],
+            ) }
     {
         let word = word_place(self.many);
         let shared = &self.table.shared;
@@ -255,9 +308,12 @@ impl<P, Q: Drop, K: Drop, R: LinkRule<P, Q, K>> LinkTable<P, Q, K, R> {
     /// Gives the place's second part a place of its own.
     pub fn split(&self, place: &mut Place<P, Q>) -> Place<P, Q>
         requires table { place.old.seat.table_id ≡ self.now.table.shared.table_id }
-        requires rests { (p : P) × (x : P) × (others : List P) × Rests place.old.seat.me p (x ∷ others) }
-        ensures tables { (place.new.seat.table_id ≡ place.old.seat.table_id) × (result.seat.table_id ≡ place.old.seat.table_id) }
-        ensures parts { (place.new.seat.me ≡ (first_alone place.old.seat.me.0, [])) × (result.seat.me ≡ (second_alone place.old.seat.me.0, [])) }
+        requires rests { (p : P) × (x : P) × (others : List P) ×
+            Rests place.old.seat.me p (x ∷ others) }
+        ensures tables { (place.new.seat.table_id ≡ place.old.seat.table_id) ×
+            (result.seat.table_id ≡ place.old.seat.table_id) }
+        ensures parts { (place.new.seat.me ≡ (first_alone place.old.seat.me.0, [])) ×
+            (result.seat.me ≡ (second_alone place.old.seat.me.0, [])) }
     {
         let shared = &self.table.shared;
         Place {
@@ -267,10 +323,14 @@ impl<P, Q: Drop, K: Drop, R: LinkRule<P, Q, K>> LinkTable<P, Q, K, R> {
 
     /// Puts the parts of another place behind those of this one.
     pub fn join(&self, place: &mut Place<P, Q>, other: Place<P, Q>)
-        requires tables { (place.old.seat.table_id ≡ self.now.table.shared.table_id) × (other.seat.table_id ≡ self.now.table.shared.table_id) }
+        requires tables { (place.old.seat.table_id ≡ self.now.table.shared.table_id) ×
+            (other.seat.table_id ≡ self.now.table.shared.table_id) }
         requires rests { (other.seat.me.0.link ≡ None) × (other.seat.me.1 ≡ []) }
         ensures table { place.new.seat.table_id ≡ place.old.seat.table_id }
-        ensures parts { place.new.seat.me ≡ (together place.old.seat.me.0 other.seat.me.0, place.old.seat.me.1) }
+        ensures parts { place.new.seat.me ≡ (
+          together place.old.seat.me.0 other.seat.me.0,
+          place.old.seat.me.1,
+        ) }
     {
         let Place { seat } = other;
         let shared = &self.table.shared;
@@ -278,12 +338,14 @@ impl<P, Q: Drop, K: Drop, R: LinkRule<P, Q, K>> LinkTable<P, Q, K, R> {
     }
 }
 
-/// The words as a table is made: no link is out, each may have something on it, and the halt is down.
+/// The words as a table is made: no link is out, each may have something on it, and the halt is
+/// down.
 fn first_words(alloc: Global, many: usize, next: u64) -> Result<Vec<u64>, AllocError>
     requires { many < 2 ^ 24 }
     ensures long { IfOk result (λ v. length v.items ≡ word_at (many + 2)) }
     ensures links { IfOk result (λ v. (i : ℕ) → i < many → slice_index v.items (word_at i) ≡ 2) }
-    ensures others { IfOk result (λ v. (slice_index v.items (word_at many) ≡ next) × (slice_index v.items (word_at (many + 1)) ≡ 0)) }
+    ensures others { IfOk result (λ v. (slice_index v.items (word_at many) ≡ next) ×
+        (slice_index v.items (word_at (many + 1)) ≡ 0)) }
 {
     let count = word_place(many + 2);
     let mut words = Vec::from_elem(alloc, 0u64, count)?;
@@ -298,7 +360,8 @@ fn lay_words(words: &mut [u64], many: usize, next: u64)
     requires down { slice_index words.old (word_at (many + 1)) ≡ 0 }
     ensures long { length words.new ≡ word_at (many + 2) }
     ensures links { (i : ℕ) → i < many → slice_index words.new (word_at i) ≡ 2 }
-    ensures others { (slice_index words.new (word_at many) ≡ next) × (slice_index words.new (word_at (many + 1)) ≡ 0) }
+    ensures others { (slice_index words.new (word_at many) ≡ next) ×
+        (slice_index words.new (word_at (many + 1)) ≡ 0) }
 {
     let laden = LinkWord::Laden.number();
     let tickets = word_place(many);

@@ -33,7 +33,10 @@ impl LinkRule<Node, Option<u64>, ()> for Mail {
 
     ghost learns = { λ node link mail. IfSome mail (λ message. message < 100) };
 
-    ghost first = { λ about. record { number = 1; ticket = None } ∷ record { number = 0; ticket = None } ∷ [] };
+    ghost first = { λ about. record {
+      number = 1;
+      ticket = None;
+    } ∷ record { number = 0; ticket = None } ∷ [] };
 }
 
 type MailTable = LinkTable<Node, Option<u64>, (), Mail>;
@@ -42,7 +45,8 @@ type MailPlace = Place<Node, Option<u64>>;
 
 /// Puts a message on the link.
 fn send<R: Wait>(rt: &R, table: &MailTable, place: &mut MailPlace, node: &Node, message: u64)
-    requires table { (place.old.seat.table_id ≡ table.now.table.shared.table_id) × (0 < table.now.many) }
+    requires table { (place.old.seat.table_id ≡ table.now.table.shared.table_id) ×
+        (0 < table.now.many) }
     requires rests { Rests place.old.seat.me node.now [] }
     requires few { message < 100 }
     ensures table { place.new.seat.table_id ≡ place.old.seat.table_id }
@@ -61,7 +65,8 @@ fn send<R: Wait>(rt: &R, table: &MailTable, place: &mut MailPlace, node: &Node, 
 
 /// Takes a message off the link.
 fn receive<R: Wait>(rt: &R, table: &MailTable, place: &mut MailPlace, node: &Node) -> u64
-    requires table { (place.old.seat.table_id ≡ table.now.table.shared.table_id) × (0 < table.now.many) }
+    requires table { (place.old.seat.table_id ≡ table.now.table.shared.table_id) ×
+        (0 < table.now.many) }
     requires rests { Rests place.old.seat.me node.now [] }
     ensures table { place.new.seat.table_id ≡ place.old.seat.table_id }
     ensures rests { Rests place.new.seat.me node.now [] }
@@ -111,7 +116,8 @@ fn draw_and_send<R: Wait>(
     place: MailPlace,
     node: Node,
 ) -> (MailPlace, Node)
-    requires table { (place.seat.table_id ≡ table.now.table.shared.table_id) × (0 < table.now.many) }
+    requires table { (place.seat.table_id ≡ table.now.table.shared.table_id) ×
+        (0 < table.now.many) }
     requires rests { Rests place.seat.me node [] }
     ensures table { result.0.seat.table_id ≡ table.now.table.shared.table_id }
     ensures rests { Rests result.0.seat.me result.1 [] × (result.1.number ≡ node.number) }
@@ -129,7 +135,8 @@ fn draw_and_receive<R: Wait>(
     place: MailPlace,
     node: Node,
 ) -> (MailPlace, Node, u64)
-    requires table { (place.seat.table_id ≡ table.now.table.shared.table_id) × (0 < table.now.many) }
+    requires table { (place.seat.table_id ≡ table.now.table.shared.table_id) ×
+        (0 < table.now.many) }
     requires rests { Rests place.seat.me node [] }
     ensures table { result.0.seat.table_id ≡ table.now.table.shared.table_id }
     ensures rests { Rests result.0.seat.me result.1 [] × (result.1.number ≡ node.number) }
@@ -154,7 +161,8 @@ fn run<R: Threads + Wait + Sync>(
     requires rests { Rests one.seat.me (record { number = 1; ticket = None }) []
         × Rests other.seat.me (record { number = 0; ticket = None }) [] }
     ensures table { result.0.seat.table_id ≡ table.now.table.shared.table_id }
-    ensures rests { Rests result.0.seat.me result.1 (result.2 ∷ []) × (result.1.number ≡ 1) × (result.2.number ≡ 0) }
+    ensures rests { Rests result.0.seat.me result.1 (result.2 ∷ []) ×
+        (result.1.number ≡ 1) × (result.2.number ≡ 0) }
     ensures few { result.3 < 100 }
 {
     let ((place, first), (theirs, second, message)) = thread::join(
@@ -172,7 +180,8 @@ fn run<R: Threads + Wait + Sync>(
             draw_and_send(rt, table, one, node)
         },
         move ||
-            requires { (other.seat.table_id ≡ table.now.table.shared.table_id) × (0 < table.now.many)
+            requires { (other.seat.table_id ≡ table.now.table.shared.table_id) ×
+                (0 < table.now.many)
                 × Rests other.seat.me (record { number = 0; ticket = None }) [] }
             ensures { (result.0.seat.table_id ≡ table.entry.now.table.shared.table_id)
                 × Rests result.0.seat.me result.1 [] × (result.1.number ≡ 0) × (result.2 < 100) }
@@ -191,9 +200,13 @@ fn run<R: Threads + Wait + Sync>(
 
 /// Makes a table with one link and the tickets 5 and 6, and a place with both nodes.
 fn opened(alloc: Global) -> Result<(MailTable, MailPlace), NoMemory>
-    ensures table { IfOk result (λ t. (t.1.seat.table_id ≡ t.0.table.shared.table_id) × (t.0.many ≡ 1)) }
+    ensures table { IfOk result (λ t. (t.1.seat.table_id ≡ t.0.table.shared.table_id) ×
+        (t.0.many ≡ 1)) }
     ensures rests { IfOk result (λ t.
-        Rests t.1.seat.me (record { number = 1; ticket = None }) (record { number = 0; ticket = None } ∷ [])) }
+        Rests t.1.seat.me (record { number = 1; ticket = None }) (record {
+          number = 0;
+          ticket = None;
+        } ∷ [])) }
 {
     let mut links = Vec::with_capacity(alloc, 1)?;
     links.push_reserved(None);

@@ -41,7 +41,8 @@ impl LinkWord {
 /// Words are 64 bytes apart, so no two of them lie on one line of the cache.
 const STRIDE: usize = 8;
 
-/// Returns where the word of a link stands. The word of tickets follows those of the links, and then comes the word of the halt.
+/// Returns where the word of a link stands. The word of tickets follows those of the links, and
+/// then comes the word of the halt.
 pub(crate) fn word_place(link: usize) -> usize
     requires { link < 2 ^ 32 }
     ensures { result ≡ word_at link }

@@ -9,7 +9,8 @@ use gl_base::vertex_places::Places;
 use gl_base::{EdgeLine, GhostLine, MachineNo, Vertex};
 use graph_core::{Half, Keyed};
 
-/// The half-edges of lines, each by the vertex where it is, and by `none` where that is not below it.
+/// The half-edges of lines, each by the vertex where it is, and by `none` where that is not below
+/// it.
 #[derive(Drop)]
 pub struct EndsOf<'a> {
     pub edges: &'a [EdgeLine],
@@ -78,7 +79,8 @@ pub fn key_at(places: &Places, v: Vertex, none: u32) -> u32
     }
 }
 
-/// What stands at which place of a machine's order: its own vertices at the first so many, and its ghosts behind them.
+/// What stands at which place of a machine's order: its own vertices at the first so many, and its
+/// ghosts behind them.
 #[derive(Drop)]
 pub struct Standing<'a> {
     pub me: MachineNo,
@@ -90,7 +92,8 @@ pub struct Standing<'a> {
 /// A half-edge as a side.
 #[inline]
 pub fn side_at(half: &Half, standing: &Standing<'_>) -> Side
-    ensures { result ≡ side_of standing.now.me standing.now.many standing.now.ghosts.now standing.now.places.now half.now }
+    ensures { result ≡ side_of standing.now.me standing.now.many standing.now.ghosts.now
+        standing.now.places.now half.now }
 {
     let place = key_at(standing.places, half.other, u32::MAX);
     Side {

@@ -12,8 +12,9 @@ use graph_core::Rows;
 use std::marker::Model;
 use update_api::Link;
 
-/// The part of the graph that a machine owns, with the data of its own vertices and the numbers of edges. Contracts see it by
-/// the vertex's number; what is kept stands in an order of the machine's own.
+/// The part of the graph that a machine owns, with the data of its own vertices and the numbers of
+/// edges. Contracts see it by the vertex's number; what is kept stands in an order of the machine's
+/// own.
 #[derive(Drop)]
 pub struct LocalGraph {
     pub(crate) me: MachineNo,
@@ -75,7 +76,8 @@ impl LocalGraph {
         }
     }
 
-    /// The place of v in the machine's own order, ghosts behind own vertices, and `None` where v is neither.
+    /// The place of v in the machine's own order, ghosts behind own vertices, and `None` where v is
+    /// neither.
     #[inline]
     pub fn place(&self, v: Vertex) -> Option<usize>
         ensures { result ≡ place_at self.now v.0 }
@@ -108,7 +110,8 @@ impl LocalGraph {
     /// Writes the datum of an own vertex.
     pub fn set_datum(&mut self, v: Vertex, datum: Datum)
         requires { is_own self.old v.0 ≡ true }
-        ensures datum { (x : ℕ) → own_datum self.new x ≡ (if x == v.0 then Some datum else own_datum self.old x) }
+        ensures datum { (x : ℕ) →
+            own_datum self.new x ≡ (if x == v.0 then Some datum else own_datum self.old x) }
         ensures exact { self.new.kept ≡ set_where self.old.kept (place_at self.old v.0) datum }
         ensures rest { self.new ≡ record self.old { kept = self.new.kept } }
     {
@@ -164,7 +167,8 @@ impl LocalGraph {
         }
     }
 
-    /// The own vertices in the scope of an own vertex or a ghost, ascending, and none for any other vertex.
+    /// The own vertices in the scope of an own vertex or a ghost, ascending, and none for any other
+    /// vertex.
     pub fn part(&self, v: Vertex) -> &[Vertex]
         ensures { result.now ≡ part_at self.now v.0 }
     {
@@ -192,7 +196,9 @@ impl LocalGraph {
     /// Writes the number of an edge.
     pub fn set_number(&mut self, edge: EdgeNo, number: u64)
         requires { HasEdge self.old edge.0 }
-        ensures number { (e : ℕ) → edge_number_at self.new e ≡ (if e == edge.0 then number else edge_number_at self.old e) }
+        ensures number { (e : ℕ) →
+            edge_number_at self.new e ≡ (if e == edge.0 then number
+            else edge_number_at self.old e) }
         ensures edges { (e : ℕ) → HasEdge self.old e → HasEdge self.new e }
         ensures many { length self.new.numbers ≡ length self.old.numbers }
         ensures rest { self.new ≡ record self.old { numbers = self.new.numbers } }
@@ -210,14 +216,17 @@ impl LocalGraph {
         }
     }
 
-    /// Moves the row of an own vertex out, with the numbers of its edges in a list that has room for them.
+    /// Moves the row of an own vertex out, with the numbers of its edges in a list that has room
+    /// for them.
     pub fn take_row(&mut self, v: Vertex, spare: Vec<u64>) -> Row
         requires row { is_some (links_at self.old v.0) ≡ true }
         requires room { length (sides_at self.old v.0) ≤ vec_capacity spare }
         ensures links { links_at self.old v.0 ≡ Some result.links.items }
         ensures many { length result.links.items ≡ length (sides_at self.old v.0) }
-        ensures numbers { result.numbers.items ≡ numbers_along (edge_number_at self.old) (sides_at self.old v.0) }
-        ensures out { (x : ℕ) → links_at self.new x ≡ (if x == v.0 then None else links_at self.old x) }
+        ensures numbers { result.numbers.items ≡ numbers_along (edge_number_at self.old)
+            (sides_at self.old v.0) }
+        ensures out { (x : ℕ) →
+            links_at self.new x ≡ (if x == v.0 then None else links_at self.old x) }
         ensures rest { self.new ≡ record self.old { rows = self.new.rows } }
     {
         let Some(place) = self.places.place(v) else {
@@ -230,18 +239,26 @@ impl LocalGraph {
         }
     }
 
-    /// Moves the row of an own vertex back, and writes the numbers of its edges. Hands back the list that they stood in.
+    /// Moves the row of an own vertex back, and writes the numbers of its edges. Hands back the
+    /// list that they stood in.
     pub fn put_row(&mut self, v: Vertex, row: Row) -> Vec<u64>
         requires own { is_own self.old v.0 ≡ true }
         requires links { length row.links.items ≡ length (sides_at self.old v.0) }
         requires numbers { length row.numbers.items ≡ length (sides_at self.old v.0) }
         ensures spare { result ≡ row.numbers }
-        ensures back { (x : ℕ) → links_at self.new x ≡ (if x == v.0 then Some row.links.items else links_at self.old x) }
-        ensures numbers { (e : ℕ) → edge_number_at self.new e ≡ written (sides_at self.old v.0) row.numbers.items (edge_number_at self.old) e }
+        ensures back { (x : ℕ) →
+            links_at self.new x ≡ (if x == v.0 then Some row.links.items else links_at self.old x) }
+        ensures numbers { (e : ℕ) →
+            edge_number_at self.new e ≡ written (sides_at self.old v.0) row.numbers.items
+            (edge_number_at self.old) e }
         ensures edges { (e : ℕ) → HasEdge self.old e → HasEdge self.new e }
         ensures many { length self.new.numbers ≡ length self.old.numbers }
-        ensures exact { self.new.rows ≡ set_where self.old.rows (place_at self.old v.0) (Some row.links.items) }
-        ensures rest { self.new ≡ record self.old { rows = self.new.rows; numbers = self.new.numbers } }
+        ensures exact { self.new.rows ≡ set_where self.old.rows (place_at self.old v.0)
+            (Some row.links.items) }
+        ensures rest { self.new ≡ record self.old {
+          rows = self.new.rows;
+          numbers = self.new.numbers;
+        } }
     {
         let Row { links, numbers } = row;
         let Some(place) = self.places.place(v) else {

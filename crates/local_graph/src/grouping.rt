@@ -11,7 +11,8 @@ use std::alloc::Global;
 pub fn halves_by_vertex(alloc: Global, ends: &EndsOf<'_>) -> Result<Rows<Half>, NoMemory>
     requires { ends.now.none + 1 < 2 ^ 32 }
     ensures count { IfOk result (λ rows. length rows ≡ ends.now.none + 1) }
-    ensures each { IfOk result (λ rows. (v : ℕ) → v < ends.now.none → slice_index_or rows v [] ≡ halves_of_lines ends.now.directed ends.now.edges.now v) }
+    ensures each { IfOk result (λ rows. (v : ℕ) → v < ends.now.none →
+        slice_index_or rows v [] ≡ halves_of_lines ends.now.directed ends.now.edges.now v) }
 {
     let rows = Rows::group(alloc, ends.none as usize + 1, ends)?;
     Ok(rows)

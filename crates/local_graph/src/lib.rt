@@ -1,5 +1,5 @@
-//! The part of the graph that a machine owns: its vertices in an order of its own, the edges at them with their numbers, and
-//! the works that are made of them.
+//! The part of the graph that a machine owns: its vertices in an order of its own, the edges at
+//! them with their numbers, and the works that are made of them.
 #![tactic(auto)]
 
 mod ends;

@@ -7,7 +7,8 @@ ghost use Rattle.local_graph.specs.Inner.AtPlaces.{machines_of};
 use crate::Side;
 use gl_base::{MachineNo, NoMemory};
 
-/// Lists the machines of the scope of a vertex with these sides, ascending, in place of what the list had.
+/// Lists the machines of the scope of a vertex with these sides, ascending, in place of what the
+/// list had.
 pub fn fill_machines(
     list: &mut Vec<MachineNo>,
     sides: &[Side],
@@ -26,7 +27,8 @@ pub fn fill_machines(
 
 /// Lists a machine that takes part.
 fn push_machine(list: &mut Vec<MachineNo>, machine: MachineNo, takes: bool) -> Result<(), NoMemory>
-    ensures { OnOk result (list.new.items ≡ list.old.items ++ (if takes then machine ∷ [] else [])) }
+    ensures { OnOk result (list.new.items ≡ list.old.items ++ (if takes then machine ∷ []
+        else [])) }
 {
     if takes {
         list.push(machine)?;

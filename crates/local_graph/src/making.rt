@@ -16,8 +16,8 @@ use graph_core::{Half, Rows};
 use std::alloc::Global;
 use update_api::Link;
 
-/// Lists by place: the rows and the machines of scopes of the own vertices, and the sides and the own vertices of scopes of
-/// all.
+/// Lists by place: the rows and the machines of scopes of the own vertices, and the sides and the
+/// own vertices of scopes of all.
 #[derive(Drop)]
 pub struct ByPlace {
     pub rows: Vec<Option<Vec<Link>>>,
@@ -26,8 +26,9 @@ pub struct ByPlace {
     pub part: Rows<Vertex>,
 }
 
-/// What the lists are made from: the vertices by place, the own ones first, the own ones in their order and whether they are plain, the
-/// half-edges at each vertex, and how many machines there are.
+/// What the lists are made from: the vertices by place, the own ones first, the own ones in their
+/// order and whether they are plain, the half-edges at each vertex, and how many machines there
+/// are.
 #[derive(Drop)]
 pub struct Sources<'a> {
     pub known: &'a [Vertex],
@@ -66,8 +67,13 @@ pub fn make_by_place(
     requires many { standing.now.many ≤ length sources.now.known.now }
     requires few { standing.now.many < 4294967295 }
     requires below { All (λ v. v.0 < length sources.now.halves.now) sources.now.known.now }
-    requires plain { sources.now.is_plain ≡ true → ArePlain sources.now.owned.now standing.now.many standing.now.places.now }
-    ensures { IfOk result (λ lists. AreMadeTo (side_of standing.now.me standing.now.many standing.now.ghosts.now standing.now.places.now) standing.now.many standing.now.me sources.now.machines sources.now.halves.now sources.now.known.now sources.now.owned.now standing.now.many (length sources.now.known.now) lists) }
+    requires plain { sources.now.is_plain ≡ true →
+        ArePlain sources.now.owned.now standing.now.many standing.now.places.now }
+    ensures { IfOk result (λ lists.
+        AreMadeTo (side_of standing.now.me standing.now.many standing.now.ghosts.now
+        standing.now.places.now) standing.now.many standing.now.me sources.now.machines
+        sources.now.halves.now sources.now.known.now sources.now.owned.now standing.now.many
+        (length sources.now.known.now) lists) }
 {
     let mut lists = no_lists(alloc, sources.known.len(), standing.many, room)?;
     let mut draft = Draft {
@@ -82,7 +88,8 @@ pub fn make_by_place(
 
 /// No place, with room for so many, of which so many are of own vertices, and for so many sides.
 fn no_lists(alloc: Global, places: usize, own: usize, room: usize) -> Result<ByPlace, NoMemory>
-    ensures { IfOk result (λ lists. (lists.rows.items ≡ []) × (lists.sides ≡ []) × (lists.parts ≡ []) × (lists.part ≡ [])) }
+    ensures { IfOk result (λ lists. (lists.rows.items ≡ []) × (lists.sides ≡ []) ×
+        (lists.parts ≡ []) × (lists.part ≡ [])) }
 {
     Ok(ByPlace {
         rows: Vec::with_capacity(alloc, own)?,
@@ -103,9 +110,17 @@ fn add_own(
     requires many { standing.now.many ≤ length sources.now.known.now }
     requires few { standing.now.many < 4294967295 }
     requires below { All (λ v. v.0 < length sources.now.halves.now) sources.now.known.now }
-    requires plain { sources.now.is_plain ≡ true → ArePlain sources.now.owned.now standing.now.many standing.now.places.now }
-    requires made { AreMadeTo (side_of standing.now.me standing.now.many standing.now.ghosts.now standing.now.places.now) standing.now.many standing.now.me sources.now.machines sources.now.halves.now sources.now.known.now sources.now.owned.now 0 0 lists.old }
-    ensures { OnOk result (AreMadeTo (side_of standing.now.me standing.now.many standing.now.ghosts.now standing.now.places.now) standing.now.many standing.now.me sources.now.machines sources.now.halves.now sources.now.known.now sources.now.owned.now standing.now.many standing.now.many lists.new) }
+    requires plain { sources.now.is_plain ≡ true →
+        ArePlain sources.now.owned.now standing.now.many standing.now.places.now }
+    requires made { AreMadeTo
+        (side_of standing.now.me standing.now.many standing.now.ghosts.now standing.now.places.now)
+        standing.now.many standing.now.me sources.now.machines sources.now.halves.now
+        sources.now.known.now sources.now.owned.now 0 0 lists.old }
+    ensures { OnOk result
+        (AreMadeTo (side_of standing.now.me standing.now.many standing.now.ghosts.now
+        standing.now.places.now) standing.now.many standing.now.me sources.now.machines
+        sources.now.halves.now sources.now.known.now sources.now.owned.now standing.now.many
+        standing.now.many lists.new) }
 {
     for place in 0..standing.many {
         let v = sources.known[place];
@@ -133,9 +148,17 @@ fn add_ghosts(
     requires many { standing.now.many ≤ length sources.now.known.now }
     requires few { standing.now.many < 4294967295 }
     requires below { All (λ v. v.0 < length sources.now.halves.now) sources.now.known.now }
-    requires plain { sources.now.is_plain ≡ true → ArePlain sources.now.owned.now standing.now.many standing.now.places.now }
-    requires made { AreMadeTo (side_of standing.now.me standing.now.many standing.now.ghosts.now standing.now.places.now) standing.now.many standing.now.me sources.now.machines sources.now.halves.now sources.now.known.now sources.now.owned.now standing.now.many standing.now.many lists.old }
-    ensures { OnOk result (AreMadeTo (side_of standing.now.me standing.now.many standing.now.ghosts.now standing.now.places.now) standing.now.many standing.now.me sources.now.machines sources.now.halves.now sources.now.known.now sources.now.owned.now standing.now.many (length sources.now.known.now) lists.new) }
+    requires plain { sources.now.is_plain ≡ true →
+        ArePlain sources.now.owned.now standing.now.many standing.now.places.now }
+    requires made { AreMadeTo
+        (side_of standing.now.me standing.now.many standing.now.ghosts.now standing.now.places.now)
+        standing.now.many standing.now.me sources.now.machines sources.now.halves.now
+        sources.now.known.now sources.now.owned.now standing.now.many standing.now.many lists.old }
+    ensures { OnOk result
+        (AreMadeTo (side_of standing.now.me standing.now.many standing.now.ghosts.now
+        standing.now.places.now) standing.now.many standing.now.me sources.now.machines
+        sources.now.halves.now sources.now.known.now sources.now.owned.now standing.now.many
+        (length sources.now.known.now) lists.new) }
 {
     for place in standing.many..sources.known.len() {
         let v = sources.known[place];
@@ -147,7 +170,8 @@ fn add_ghosts(
 }
 
 impl Draft {
-    /// The sides and the own vertices of the scope of a vertex with these half-edges, an own one or a ghost.
+    /// The sides and the own vertices of the scope of a vertex with these half-edges, an own one or
+    /// a ghost.
     fn fill(
         &mut self,
         v: Vertex,
@@ -157,10 +181,14 @@ impl Draft {
         standing: &Standing<'_>,
     ) -> Result<(), NoMemory>
         requires few { standing.now.many < 4294967295 }
-        requires plain { sources.now.is_plain ≡ true → ArePlain sources.now.owned.now standing.now.many standing.now.places.now }
+        requires plain { sources.now.is_plain ≡ true →
+            ArePlain sources.now.owned.now standing.now.many standing.now.places.now }
         ensures sides { OnOk result (self.new.sides.items ≡ sides_kept is_own standing.now.many
-            (map (side_of standing.now.me standing.now.many standing.now.ghosts.now standing.now.places.now) halves.now)) }
-        ensures scope { OnOk result (numbers_of self.new.scope.items ≡ scope_numbers sources.now.owned.now v.0 self.new.sides.items) }
+            (map (side_of standing.now.me standing.now.many standing.now.ghosts.now
+            standing.now.places.now) halves.now)) }
+        ensures scope { OnOk result
+            (numbers_of self.new.scope.items ≡ scope_numbers sources.now.owned.now
+            v.0 self.new.sides.items) }
     {
         fill_sides(&mut self.sides, halves, is_own, standing)?;
         fill_scope(
@@ -187,7 +215,8 @@ impl ByPlace {
 
     /// Adds the sides of a vertex, and the own vertices of its scope.
     fn push_around(&mut self, draft: &Draft) -> Result<(), NoMemory>
-        ensures sides { OnOk result (self.new.sides ≡ self.old.sides ++ draft.now.sides.items ∷ []) }
+        ensures sides { OnOk result
+            (self.new.sides ≡ self.old.sides ++ draft.now.sides.items ∷ []) }
         ensures part { OnOk result (self.new.part ≡ self.old.part ++ draft.now.scope.items ∷ []) }
         ensures rest { (self.new.rows ≡ self.old.rows) × (self.new.parts ≡ self.old.parts) }
     {

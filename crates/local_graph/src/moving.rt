@@ -26,7 +26,8 @@ fn move_from(lines: &mut [VertexLine], targets: &mut [u32], place: usize)
     }
 }
 
-/// Exchanges the line at a place with the one at its target, and says whether that was another place.
+/// Exchanges the line at a place with the one at its target, and says whether that was another
+/// place.
 #[inline]
 fn exchange(lines: &mut [VertexLine], targets: &mut [u32], place: usize) -> bool
     requires { place < length lines.old }

@@ -9,8 +9,9 @@ use gl_base::{EdgeNo, NoMemory};
 use std::alloc::Global;
 use std::marker::Model;
 
-/// The numbers of edges, by the number of the edge. While it is known that each is 0 the list has none, and none is looked at where they
-/// are lent and come back as they were. It has room for all, so that the first mark takes no memory. Contracts see the numbers.
+/// The numbers of edges, by the number of the edge. While it is known that each is 0 the list has
+/// none, and none is looked at where they are lent and come back as they were. It has room for all,
+/// so that the first mark takes no memory. Contracts see the numbers.
 #[derive(Drop)]
 pub struct EdgeNumbers {
     numbers: Vec<u64>,
@@ -94,7 +95,8 @@ impl EdgeNumbers {
     pub fn keep(&mut self, sides: &[Side], new: &[u64])
         requires many { length new.now ≡ length sides.now }
         requires edges { All (λ s. s.edge.0 < length self.old) sides.now }
-        ensures written { (e : ℕ) → slice_index self.new e ≡ written sides.now new.now (slice_index self.old) e }
+        ensures written { (e : ℕ) →
+            slice_index self.new e ≡ written sides.now new.now (slice_index self.old) e }
         ensures many { length self.new ≡ length self.old }
     {
         if self.blank {
@@ -162,7 +164,8 @@ fn fill_numbers(spare: Vec<u64>, sides: &[Side], numbers: &[u64]) -> Vec<u64>
 fn write_numbers(numbers: &mut [u64], sides: &[Side], new: &[u64])
     requires many { length new.now ≡ length sides.now }
     requires edges { All (λ s. s.edge.0 < length numbers.old) sides.now }
-    ensures { (e : ℕ) → slice_index numbers.new e ≡ written sides.now new.now (slice_index numbers.old) e }
+    ensures { (e : ℕ) → slice_index numbers.new e ≡ written sides.now new.now
+        (slice_index numbers.old) e }
 {
     for place in (0..sides.len()).rev() {
         numbers[sides[place].edge.0 as usize] = new[place];

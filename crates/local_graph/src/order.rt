@@ -13,8 +13,8 @@ const NONE: u32 = u32::MAX;
 /// The rank of another vertex.
 const OTHER: u32 = u32::MAX - 1;
 
-/// The vertices of lines in the order of breadth-first growth over their edges: from `first`, where that is one of them, and
-/// then from the least one that was not reached.
+/// The vertices of lines in the order of breadth-first growth over their edges: from `first`, where
+/// that is one of them, and then from the least one that was not reached.
 pub fn growth_order(
     alloc: Global,
     own: &[VertexLine],
@@ -34,7 +34,8 @@ pub fn list_known(
     own: &[VertexLine],
     ghosts: &[GhostLine],
 ) -> Result<Vec<Vertex>, NoMemory>
-    ensures { IfOk result (λ known. known.items ≡ map (λ v. v.vertex) own.now ++ map (λ g. g.vertex) ghosts.now) }
+    ensures { IfOk result (λ known.
+        known.items ≡ map (λ v. v.vertex) own.now ++ map (λ g. g.vertex) ghosts.now) }
 {
     let mut known = Vec::with_capacity(alloc, own.len().saturating_add(ghosts.len()))?;
     for line in own {
@@ -94,7 +95,8 @@ fn growth_ranks(
     Ok(growth.ranks)
 }
 
-/// Own vertices as they are reached: the rank of each, they in turn, and how many of them were left again.
+/// Own vertices as they are reached: the rank of each, they in turn, and how many of them were left
+/// again.
 #[derive(Drop)]
 struct Growth {
     ranks: Vec<u32>,

@@ -27,10 +27,11 @@ const NO_DATUM: Datum = Datum {
 };
 
 impl LocalGraph {
-    /// Machine `me`'s part of a graph, from the lines of its vertices, the ghosts beside them and the edges at them: the atom
-    /// that it has where each vertex is in the atom with the number of its owner. Its order of vertices is breadth-first
-    /// growth from `first`, where that is its own, and then from the least own vertex that was not reached. No number is set
-    /// yet: data and edges have 0.
+    /// Machine `me`'s part of a graph, from the lines of its vertices, the ghosts beside them and
+    /// the edges at them: the atom that it has where each vertex is in the atom with the number of
+    /// its owner. Its order of vertices is breadth-first growth from `first`, where that is its
+    /// own, and then from the least own vertex that was not reached. No number is set yet: data and
+    /// edges have 0.
     pub fn play(
         alloc: Global,
         me: MachineNo,
@@ -40,7 +41,8 @@ impl LocalGraph {
     ) -> Result<LocalGraph, NoMemory>
         requires vertices { All (λ v. v.vertex.0 < outline.vertices) lines.now.vertices.items }
         requires ghosts { All (λ g. g.vertex.0 < outline.vertices) lines.now.ghosts.items }
-        requires few { length lines.now.vertices.items + length lines.now.ghosts.items ≤ outline.vertices }
+        requires few { length lines.now.vertices.items + length
+            lines.now.ghosts.items ≤ outline.vertices }
         requires limit { outline.vertices ≤ MAX_VERTICES }
         requires edges { All (λ e. e.edge.0 < outline.edges) lines.now.edges.items }
         requires few_edges { length lines.now.edges.items < 2 ^ 31 }
@@ -65,8 +67,9 @@ impl LocalGraph {
         )
     }
 
-    /// Machine `me`'s part of this graph, one of so many machines, from the lines of its own vertices and of the ghosts beside
-    /// them. Its order of vertices is that of `play`, and no number is set yet.
+    /// Machine `me`'s part of this graph, one of so many machines, from the lines of its own
+    /// vertices and of the ghosts beside them. Its order of vertices is that of `play`, and no
+    /// number is set yet.
     pub fn of(
         alloc: Global,
         me: MachineNo,
@@ -79,7 +82,9 @@ impl LocalGraph {
         requires vertices { All (λ v. v.vertex.0 < size graph.now) own.now }
         requires ghosts { All (λ g. g.vertex.0 < size graph.now) ghosts.now }
         requires few { length own.now + length ghosts.now ≤ size graph.now }
-        ensures { IfOk result (λ local. IsMadeOf me own.now ghosts.now (graph_halves graph.now) machines (length graph.now.edges) local) }
+        ensures { IfOk result (λ local.
+            IsMadeOf me own.now ghosts.now (graph_halves graph.now) machines
+            (length graph.now.edges) local) }
     {
         let outline = Outline {
             machines,
@@ -105,7 +110,8 @@ fn count_halves(own: &[VertexLine], halves: &Rows<Half>) -> usize {
     count
 }
 
-/// The part of the graph with these vertices and ghosts, from the half-edges at each vertex. Room for so many sides is made at first.
+/// The part of the graph with these vertices and ghosts, from the half-edges at each vertex. Room
+/// for so many sides is made at first.
 fn play_halves(
     alloc: Global,
     me: MachineNo,
@@ -190,7 +196,8 @@ struct Beside {
     numbers: EdgeNumbers,
 }
 
-/// The ghosts, the identifiers of the own vertices in this order, and no number set, of these and of so many edges.
+/// The ghosts, the identifiers of the own vertices in this order, and no number set, of these and
+/// of so many edges.
 fn make_beside(
     alloc: Global,
     ghosts: &[GhostLine],

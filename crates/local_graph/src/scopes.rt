@@ -1,4 +1,5 @@
-//! The own vertices in the scope of a vertex, from its sides: whoever has a neighbour is its neighbour.
+//! The own vertices in the scope of a vertex, from its sides: whoever has a neighbour is its
+//! neighbour.
 ghost use Rattle.std.specs.Prelude.{◌≡◌, ℕ, ◌+◌, ◌<◌, ◌≤◌, ◌==◌, ◌&&◌, ◌||◌, ◌++◌, ◌∷◌, true, [], nat_lt, if◌then◌else◌, vec_len, vec_capacity, OnOk};
 ghost use Rattle.std.specs.List.{All, list_any};
 ghost use Rattle.local_graph.specs.Locals.{place_of_vertex};
@@ -12,7 +13,9 @@ use graph_core::{ascend, make_distinct};
 
 /// Whether a machine's own vertices ascend, and are just those that have the first so many places.
 pub fn are_plain(owned: &[Vertex], standing: &Standing<'_>) -> bool
-    requires { (x : ℕ) → is_first_place standing.now.many (place_of_vertex standing.now.places.now x) ≡ true → number_among x (numbers_of owned.now) ≡ true }
+    requires { (x : ℕ) →
+        is_first_place standing.now.many (place_of_vertex standing.now.places.now x) ≡ true →
+        number_among x (numbers_of owned.now) ≡ true }
     ensures { result ≡ true → ArePlain owned.now standing.now.many standing.now.places.now }
 {
     ascend(owned) && have_first_places(owned, standing)
@@ -20,7 +23,9 @@ pub fn are_plain(owned: &[Vertex], standing: &Standing<'_>) -> bool
 
 /// Whether these vertices have places among the first so many.
 fn have_first_places(owned: &[Vertex], standing: &Standing<'_>) -> bool
-    ensures { result ≡ true → All (λ v. is_first_place standing.now.many (place_of_vertex standing.now.places.now v.0) ≡ true) owned.now }
+    ensures { result ≡ true →
+        All (λ v. is_first_place standing.now.many
+        (place_of_vertex standing.now.places.now v.0) ≡ true) owned.now }
 {
     for v in owned {
         if !has_first_place(*v, standing) {
@@ -33,7 +38,8 @@ fn have_first_places(owned: &[Vertex], standing: &Standing<'_>) -> bool
 /// Whether a vertex has one of the first so many places.
 #[inline]
 fn has_first_place(v: Vertex, standing: &Standing<'_>) -> bool
-    ensures { result ≡ is_first_place standing.now.many (place_of_vertex standing.now.places.now v.0) }
+    ensures { result ≡ is_first_place standing.now.many
+        (place_of_vertex standing.now.places.now v.0) }
 {
     match standing.places.place(v) {
         Some(place) => place < standing.many,
@@ -41,8 +47,9 @@ fn has_first_place(v: Vertex, standing: &Standing<'_>) -> bool
     }
 }
 
-/// Lists the own vertices in the scope of a vertex with these sides, in their order, in place of what the list had. Where they are
-/// plain the sides tell which vertices are own ones, and else each own vertex is looked at.
+/// Lists the own vertices in the scope of a vertex with these sides, in their order, in place of
+/// what the list had. Where they are plain the sides tell which vertices are own ones, and else
+/// each own vertex is looked at.
 pub fn fill_scope(
     list: &mut Vec<Vertex>,
     v: Vertex,
@@ -51,7 +58,8 @@ pub fn fill_scope(
     is_plain: bool,
     standing: &Standing<'_>,
 ) -> Result<(), NoMemory>
-    requires plain { is_plain ≡ true → ArePlain owned.now standing.now.many standing.now.places.now }
+    requires plain { is_plain ≡ true →
+        ArePlain owned.now standing.now.many standing.now.places.now }
     requires few { standing.now.many < 4294967295 }
     requires sides { All (IsSideTo standing.now.places.now) sides.now }
     ensures { OnOk result (numbers_of list.new.items ≡ scope_numbers owned.now v.0 sides.now) }
@@ -66,8 +74,8 @@ pub fn fill_scope(
     }
 }
 
-/// Lists those of a vertex and the other ends of its sides that have places among the first so many. Where the other ends ascend,
-/// the vertex is put in its order.
+/// Lists those of a vertex and the other ends of its sides that have places among the first so
+/// many. Where the other ends ascend, the vertex is put in its order.
 fn list_near(
     list: &mut Vec<Vertex>,
     v: Vertex,
@@ -75,7 +83,11 @@ fn list_near(
     standing: &Standing<'_>,
 ) -> Result<(), NoMemory>
     requires none { list.old.items ≡ [] }
-    ensures { OnOk result ((x : ℕ) → number_among x (numbers_of list.new.items) ≡ ((is_first_place standing.now.many (place_of_vertex standing.now.places.now v.0) && x == v.0) || list_any (λ s. nat_lt s.place standing.now.many && s.other.0 == x) sides.now)) }
+    ensures { OnOk result ((x : ℕ) →
+        number_among x (numbers_of list.new.items) ≡
+        ((is_first_place standing.now.many
+        (place_of_vertex standing.now.places.now v.0) && x == v.0) || list_any (λ s.
+        nat_lt s.place standing.now.many && s.other.0 == x) sides.now)) }
 {
     if sides.len() == usize::MAX {
         return Err(NoMemory);
@@ -91,13 +103,17 @@ fn list_near(
     Ok(())
 }
 
-/// Lists the other end of a side where its place is among the first so many, and before it the vertex that waits, where that is
-/// lower. Says whether that waits still.
+/// Lists the other end of a side where its place is among the first so many, and before it the
+/// vertex that waits, where that is lower. Says whether that waits still.
 #[inline]
 fn push_end(list: &mut Vec<Vertex>, v: Vertex, waits: bool, side: &Side, many: usize) -> bool
     requires { vec_len list.old + (if waits then 2 else 1) ≤ vec_capacity list.old }
-    ensures has { (x : ℕ) → (number_among x (numbers_of list.new.items) || (result && x == v.0)) ≡ ((number_among x (numbers_of list.old.items) || (waits && x == v.0)) || (nat_lt side.now.place many && side.now.other.0 == x)) }
-    ensures len { vec_len list.new + (if result then 1 else 0) ≤ vec_len list.old + (if waits then 2 else 1) }
+    ensures has { (x : ℕ) →
+        (number_among x (numbers_of list.new.items) || (result && x == v.0)) ≡
+        ((number_among x (numbers_of list.old.items) || (waits && x == v.0)) || (nat_lt
+        side.now.place many && side.now.other.0 == x)) }
+    ensures len { vec_len list.new + (if result then 1
+        else 0) ≤ vec_len list.old + (if waits then 2 else 1) }
     ensures capacity { vec_capacity list.new ≡ vec_capacity list.old }
 {
     if side.place as usize >= many {
@@ -112,7 +128,8 @@ fn push_end(list: &mut Vec<Vertex>, v: Vertex, waits: bool, side: &Side, many: u
     waits
 }
 
-/// Lists those of the own vertices that are in the scope of a vertex with these sides, in their order.
+/// Lists those of the own vertices that are in the scope of a vertex with these sides, in their
+/// order.
 fn list_among(
     list: &mut Vec<Vertex>,
     v: Vertex,

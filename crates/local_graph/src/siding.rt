@@ -7,8 +7,8 @@ use crate::ends::{Standing, side_at};
 use gl_base::NoMemory;
 use graph_core::Half;
 
-/// Lists these half-edges at a vertex as sides, in place of what the list had: each one of an own vertex, and of a ghost those that lead
-/// to an own vertex.
+/// Lists these half-edges at a vertex as sides, in place of what the list had: each one of an own
+/// vertex, and of a ghost those that lead to an own vertex.
 pub fn fill_sides(
     list: &mut Vec<Side>,
     halves: &[Half],
@@ -16,7 +16,8 @@ pub fn fill_sides(
     standing: &Standing<'_>,
 ) -> Result<(), NoMemory>
     ensures { OnOk result (list.new.items ≡ sides_kept is_own standing.now.many
-        (map (side_of standing.now.me standing.now.many standing.now.ghosts.now standing.now.places.now) halves.now)) }
+        (map (side_of standing.now.me standing.now.many standing.now.ghosts.now
+        standing.now.places.now) halves.now)) }
 {
     list.clear();
     list.reserve(halves.len())?;
@@ -30,7 +31,8 @@ pub fn fill_sides(
 #[inline]
 fn push_side(list: &mut Vec<Side>, side: Side, is_own: bool, many: usize)
     requires { vec_len list.old < vec_capacity list.old }
-    ensures listed { list.new.items ≡ list.old.items ++ (if is_own || nat_lt side.place many then side ∷ [] else []) }
+    ensures listed { list.new.items ≡
+        list.old.items ++ (if is_own || nat_lt side.place many then side ∷ [] else []) }
     ensures len { vec_len list.new ≤ vec_len list.old + 1 }
     ensures capacity { vec_capacity list.new ≡ vec_capacity list.old }
 {

@@ -9,8 +9,8 @@ use gl_base::{ScopeId, Vertex};
 use std::alloc::Global;
 use update_api::{Link, Program, Scope, Woken};
 
-/// A ready scope moved out for its update: its vertex with identifier and number, the row, and the numbers at the other ends
-/// of the row's edges.
+/// A ready scope moved out for its update: its vertex with identifier and number, the row, and the
+/// numbers at the other ends of the row's edges.
 #[derive(Drop)]
 pub struct Work {
     pub scope: ScopeId,
@@ -27,8 +27,8 @@ pub struct Batch {
     pub work: Vec<Work>,
 }
 
-/// A work as it was taken, and what its update makes of it: the new number of the vertex, those of the row's edges, and whom
-/// it wakes.
+/// A work as it was taken, and what its update makes of it: the new number of the vertex, those of
+/// the row's edges, and whom it wakes.
 #[derive(Drop)]
 pub struct Outcome {
     pub work: Work,
@@ -38,7 +38,8 @@ pub struct Outcome {
 }
 
 impl Outcome {
-    /// The outcome of an update that changes nothing and wakes nobody. Want of memory hands the work back.
+    /// The outcome of an update that changes nothing and wakes nobody. Want of memory hands the
+    /// work back.
     pub fn of(alloc: Global, work: Work) -> Result<Outcome, Work>
         ensures work { IfOk result (λ o. o.work ≡ work) }
         ensures value { IfOk result (λ o. o.value ≡ work.value) }
@@ -49,7 +50,8 @@ impl Outcome {
         Outcome::in_list(Vec::new(alloc), work)
     }
 
-    /// The same, with the numbers of edges in this list. It takes memory only where the list has no room for them.
+    /// The same, with the numbers of edges in this list. It takes memory only where the list has no
+    /// room for them.
     pub fn in_list(list: Vec<u64>, work: Work) -> Result<Outcome, Work>
         ensures work { IfOk result (λ o. o.work ≡ work) }
         ensures value { IfOk result (λ o. o.value ≡ work.value) }
@@ -70,15 +72,21 @@ impl Outcome {
         }
     }
 
-    /// Makes the update of the work: the program may write the number of the vertex and those of its edges.
+    /// Makes the update of the work: the program may write the number of the vertex and those of
+    /// its edges.
     pub fn update<P: Program>(&mut self, program: &P)
         requires row { IsRow self.old.work.row.links.items (length self.old.work.near.items) }
         requires edges { length self.old.edges.items ≡ length self.old.work.near.items }
         ensures work { self.new.work ≡ self.old.work }
         ensures many { length self.new.edges.items ≡ length self.old.edges.items }
-        ensures number { self.new.value ≡ (P.meaning program.now).number self.old.value (nears_at (self.old.work.near.items ++ self.old.value ∷ []) self.old.edges.items self.old.work.row.links.items) }
-        ensures marks { AreMarked ((P.meaning program.now).mark self.new.value) (self.old.work.near.items ++ self.old.value ∷ []) self.old.edges.items self.old.work.row.links.items self.new.edges.items }
-        ensures woken { self.new.woken ≡ (P.meaning program.now).woken self.old.value self.new.value }
+        ensures number { self.new.value ≡ (P.meaning program.now).number self.old.value
+            (nears_at (self.old.work.near.items ++ self.old.value ∷ []) self.old.edges.items
+            self.old.work.row.links.items) }
+        ensures marks { AreMarked ((P.meaning program.now).mark self.new.value)
+            (self.old.work.near.items ++ self.old.value ∷ []) self.old.edges.items
+            self.old.work.row.links.items self.new.edges.items }
+        ensures woken { self.new.woken ≡ (P.meaning program.now).woken
+            self.old.value self.new.value }
     {
         self.woken = update_scope(
             program,
@@ -101,8 +109,10 @@ fn update_scope<P: Program>(
     edges: &mut [u64],
 ) -> Woken
     requires { AreLinks links.now (length near.now) (length near.now + 1 + 0) (length edges.old) }
-    ensures number { centre.new ≡ (P.meaning program.now).number centre.old (nears_at (near.now ++ centre.old ∷ []) edges.old links.now) }
-    ensures marks { AreMarked ((P.meaning program.now).mark centre.new) (near.now ++ centre.old ∷ []) edges.old links.now edges.new }
+    ensures number { centre.new ≡ (P.meaning program.now).number centre.old
+        (nears_at (near.now ++ centre.old ∷ []) edges.old links.now) }
+    ensures marks { AreMarked ((P.meaning program.now).mark centre.new)
+        (near.now ++ centre.old ∷ []) edges.old links.now edges.new }
     ensures woken { result ≡ (P.meaning program.now).woken centre.old centre.new }
 {
     let mut scope = Scope::new(id, links, near, centre, &[], edges);

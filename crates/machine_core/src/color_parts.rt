@@ -1,4 +1,5 @@
-//! The parts of one machine of a cluster that goes by colours, and what they stand for in the cluster's law.
+//! The parts of one machine of a cluster that goes by colours, and what they stand for in the
+//! cluster's law.
 
 mod cores;
 mod enlisting;

@@ -1,4 +1,5 @@
-//! The update of a vertex whose scope lies on one machine, made at once: no lock is taken and no message is sent.
+//! The update of a vertex whose scope lies on one machine, made at once: no lock is taken and no
+//! message is sent.
 
 mod finding;
 mod making;

@@ -1,4 +1,5 @@
-//! Scopes at a machine: they are admitted, take their locks one after another, and go from machine to machine and home.
+//! Scopes at a machine: they are admitted, take their locks one after another, and go from machine
+//! to machine and home.
 
 mod admitting;
 mod asking;

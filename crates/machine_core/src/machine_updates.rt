@@ -1,5 +1,5 @@
-//! Updates on one machine: ready scopes are taken out as works, updates are committed and told to the other machines, and word
-//! of updates elsewhere is received.
+//! Updates on one machine: ready scopes are taken out as works, updates are committed and told to
+//! the other machines, and word of updates elsewhere is received.
 
 mod batches;
 mod committing;

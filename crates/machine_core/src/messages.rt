@@ -9,16 +9,19 @@ use std::alloc::Global;
 use wire::wire_msgs::{Message, Returned};
 
 impl Machine {
-    /// Receives a message of another machine, by its kind. Where there is not enough memory, or as many scopes have come as may,
-    /// the message comes back as it was.
+    /// Receives a message of another machine, by its kind. Where there is not enough memory, or as
+    /// many scopes have come as may, the message comes back as it was.
     pub fn receive(&mut self, alloc: Global, message: Message) -> Result<(), Returned>
         requires { CanReceiveMessage self.old message }
         ensures settings { SameSettings self.old self.new }
-        ensures received { OnOk result (HasReceivedMessage self.old self.new (message_told message)) }
+        ensures received { OnOk result
+            (HasReceivedMessage self.old self.new (message_told message)) }
         ensures place { OnOk result (MayStillCome self.old message) }
         ensures back { IfErr result (λ back. back.message ≡ message) }
-        ensures local { self.new.numbers.local ≡ record self.old.numbers.local { numbers = self.new.numbers.local.numbers } }
-        ensures unchanged { OnErr result (HasOnlyMadeRoom self.old self.new × (part_of self.new ≡ part_of self.old)) }
+        ensures local { self.new.numbers.local ≡
+            record self.old.numbers.local { numbers = self.new.numbers.local.numbers } }
+        ensures unchanged { OnErr result (HasOnlyMadeRoom self.old self.new ×
+            (part_of self.new ≡ part_of self.old)) }
     {
         match message {
             Message::Ask {
@@ -51,7 +54,8 @@ impl Machine {
     /// Takes the first message that waits to be sent to a machine; `None` exactly where none waits.
     pub fn outbox_take(&mut self, to: MachineNo) -> Option<Message>
         ensures settings { SameSettings self.old self.new }
-        ensures taken { IfSome result (λ message. HasSentFirst (part_of self.old) to.0 (message_told message) (part_of self.new)) }
+        ensures taken { IfSome result (λ message.
+            HasSentFirst (part_of self.old) to.0 (message_told message) (part_of self.new)) }
         ensures none { IfNone result ((part_of self.old).out to.0 ≡ []) }
         ensures unchanged { IfNone result (self.new ≡ self.old) }
         ensures rest { self.new ≡ record self.old { out = self.new.out } }

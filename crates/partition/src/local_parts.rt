@@ -1,4 +1,5 @@
-//! Laws alone: what a machine holds that played its lines is its part of the graph, for every graph and every owners.
+//! Laws alone: what a machine holds that played its lines is its part of the graph, for every graph
+//! and every owners.
 
 mod laws;
 

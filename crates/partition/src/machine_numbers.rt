@@ -1,4 +1,5 @@
-//! What of a machine carries numbers: its part of the graph, the copies of ghosts, its tasks, and its log.
+//! What of a machine carries numbers: its part of the graph, the copies of ghosts, its tasks, and
+//! its log.
 
 mod finishing;
 mod keeping;

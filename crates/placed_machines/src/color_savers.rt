@@ -1,4 +1,5 @@
-//! A machine that goes by colours and takes part in snapshots, as a cluster knows it: with what it counts and what it tells the coordinator.
+//! A machine that goes by colours and takes part in snapshots, as a cluster knows it: with what it
+//! counts and what it tells the coordinator.
 mod at_once;
 mod hearing;
 mod members;

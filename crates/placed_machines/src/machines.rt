@@ -13,7 +13,8 @@ use snapshot_machines::saving::SnapMachine;
 use std::alloc::Global;
 use update_api::Program;
 
-/// A new machine that holds this part of a graph, begins with the numbers of the base, and is of the places' engine.
+/// A new machine that holds this part of a graph, begins with the numbers of the base, and is of
+/// the places' engine.
 fn new_saver<P: Program>(
     alloc: Global,
     local: LocalGraph,
@@ -23,8 +24,11 @@ fn new_saver<P: Program>(
     terms: NewTerms,
 ) -> Result<EngineSaver<P>, NoMemory>
     requires { CanSave local (P.meaning program) base.now terms places.now }
-    ensures { (st : Setting) (m : Machine) → SavesBy st (P.meaning program) base.now terms places.now → IsUnsetPart (with_locking st) local.me.0 local → m.part.serial ≡ terms.serial →
-        IfOk result (IsEngineSaverOf P.meaning st local.me.0 (goes_back st st.start st.base local.me.0 m)) }
+    ensures { (st : Setting) (m : Machine) →
+        SavesBy st (P.meaning program) base.now terms places.now →
+        IsUnsetPart (with_locking st) local.me.0 local → m.part.serial ≡ terms.serial →
+        IfOk result (IsEngineSaverOf P.meaning st local.me.0
+        (goes_back st st.start st.base local.me.0 m)) }
 {
     let _many = terms.machines;
     let numbers = first_numbers(alloc, local, base, Some(places.run.window))?;
@@ -45,7 +49,9 @@ pub fn new_savers<P: Program>(
 ) -> Result<Vec<EngineSaver<P>>, NoMemory>
     requires can { CanAllSave parts.items (P.meaning program) base.now terms places.now }
     requires serials { length serials.now ≡ length parts.items }
-    ensures stand { (st : Setting) (before : Cluster) → SavesBy st (P.meaning program) base.now terms places.now → AreUnsetParts (with_locking st) parts.items → HaveAdmitted st serials.now before →
+    ensures stand { (st : Setting) (before : Cluster) →
+        SavesBy st (P.meaning program) base.now terms places.now →
+        AreUnsetParts (with_locking st) parts.items → HaveAdmitted st serials.now before →
         IfOk result (λ savers. StandFirst P.meaning st before savers.items) }
     ensures many { IfOk result (λ savers. length savers.items ≡ length parts.items) }
 {

@@ -14,14 +14,16 @@ use snapshot_machines::saving::SnapMachine;
 use std::alloc::Global;
 use update_api::Program;
 
-/// The machine as a member of a cluster that goes by the places' engine: nothing was counted, and nothing is to be told.
+/// The machine as a member of a cluster that goes by the places' engine: nothing was counted, and
+/// nothing is to be told.
 pub fn new_member<P: Program>(
     alloc: Global,
     machine: SnapMachine<P>,
     places: &Places,
 ) -> Result<EngineSaver<P>, NoMemory>
     requires { FitsEngine P.meaning places.now.run.engine places.now.colours.items machine }
-    ensures { IfOk result (IsNewMember places.now.run.engine places.now.colours.items places.now.run.window machine) }
+    ensures { IfOk result
+        (IsNewMember places.now.run.engine places.now.colours.items places.now.run.window machine) }
 {
     let window = places.run.window;
     match places.run.engine {
@@ -33,7 +35,8 @@ pub fn new_member<P: Program>(
     }
 }
 
-/// The machine that goes by its vertices' colours, where `colours` has those of all vertices of the graph.
+/// The machine that goes by its vertices' colours, where `colours` has those of all vertices of the
+/// graph.
 fn new_color_saver<P: Program>(
     alloc: Global,
     machine: SnapMachine<P>,

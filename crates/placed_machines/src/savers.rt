@@ -16,9 +16,10 @@ use placement::places::NewTerms;
 use std::alloc::Global;
 use update_api::Program;
 
-/// How an attempt that takes snapshots runs: on so many machines, of which each has so many scopes in flight at most, with its vertices in
-/// an order that begins at `first`, where it owns that; at most `window` updates of one machine are outside the last snapshot that was
-/// acknowledged; and so updates are kept apart.
+/// How an attempt that takes snapshots runs: on so many machines, of which each has so many scopes
+/// in flight at most, with its vertices in an order that begins at `first`, where it owns that; at
+/// most `window` updates of one machine are outside the last snapshot that was acknowledged; and so
+/// updates are kept apart.
 #[derive(Clone, Copy)]
 pub struct SavingRun {
     pub machines: u16,
@@ -28,8 +29,8 @@ pub struct SavingRun {
     pub engine: Engine,
 }
 
-/// Where the vertices of a graph are, and how each attempt runs: the atom of each vertex, the machine of each atom, and, where vertices run
-/// by colours, the colour of each.
+/// Where the vertices of a graph are, and how each attempt runs: the atom of each vertex, the
+/// machine of each atom, and, where vertices run by colours, the colour of each.
 #[derive(Drop)]
 pub struct Places {
     pub of: Vec<AtomNo>,
@@ -38,8 +39,8 @@ pub struct Places {
     pub run: SavingRun,
 }
 
-/// The machines of an attempt that begins from this base, each at its place, of the engine that the places say; and machine a admits its
-/// first scope with the serial `serials[a]`.
+/// The machines of an attempt that begins from this base, each at its place, of the engine that the
+/// places say; and machine a admits its first scope with the serial `serials[a]`.
 pub fn placed_savers<P: Program>(
     alloc: Global,
     graph: &Graph,
@@ -51,7 +52,9 @@ pub fn placed_savers<P: Program>(
     requires places { ArePlacesOf graph.now places.now.run.machines places.now }
     requires base { IsBaseFor graph.now base.now }
     requires serials { length serials.now ≡ places.now.run.machines }
-    ensures stand { (st : Setting) (view : BaseView) (before : Cluster) → IsRunAt graph.now (P.meaning program) places.now st → IsBaseOf st base.now view → HaveAdmitted st serials.now before →
+    ensures stand { (st : Setting) (view : BaseView) (before : Cluster) →
+        IsRunAt graph.now (P.meaning program) places.now st → IsBaseOf st base.now view →
+        HaveAdmitted st serials.now before →
         IfOk result (λ savers. AreSaversOf P.meaning st view before savers.items) }
     ensures many { IfOk result (λ savers. length savers.items ≡ places.now.run.machines) }
 {
@@ -63,7 +66,10 @@ pub fn placed_savers<P: Program>(
 /// The part of each machine, of a graph that is placed so.
 fn parts_of(alloc: Global, graph: &Graph, places: &Places) -> Result<Vec<LocalGraph>, NoMemory>
     requires { ArePlacesOf graph.now places.now.run.machines places.now }
-    ensures { (st : Setting) → IsOwnedBy graph.now places.now.run.machines (placed_owner places.now.of.items places.now.owner.items) st → IfOk result (λ parts. AreUnsetParts st parts.items) }
+    ensures { (st : Setting) →
+        IsOwnedBy graph.now places.now.run.machines
+        (placed_owner places.now.of.items places.now.owner.items) st →
+        IfOk result (λ parts. AreUnsetParts st parts.items) }
 {
     let run = places.run;
     placed(
@@ -78,7 +84,9 @@ fn parts_of(alloc: Global, graph: &Graph, places: &Places) -> Result<Vec<LocalGr
 
 /// What the machines of such an attempt go by.
 fn terms_of(graph: &Graph, base: &Base, run: SavingRun) -> NewTerms
-    ensures goes { (st : Setting) (program : Update) (owner : ℕ → ℕ) (colours : List ℕ) → IsRunFrom graph.now program owner colours run base.now st → GoesBy (with_locking st) (Some run.window) result }
+    ensures goes { (st : Setting) (program : Update) (owner : ℕ → ℕ) (colours : List ℕ) →
+        IsRunFrom graph.now program owner colours run base.now st →
+        GoesBy (with_locking st) (Some run.window) result }
     ensures locks { result.terms.locks ≡ takes_locks run.engine }
     ensures graph { IsDataGraph graph.now }
 {

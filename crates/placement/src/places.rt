@@ -1,4 +1,5 @@
-//! The parts of a machine as it begins: its own vertices by their places, their colours, and what it holds beside its numbers.
+//! The parts of a machine as it begins: its own vertices by their places, their colours, and what
+//! it holds beside its numbers.
 
 mod colours;
 mod cores;

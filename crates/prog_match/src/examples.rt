@@ -19,7 +19,8 @@ pub fn the_third_takes_the_second()
         vertex_numbers four_in_line last ≡ INF ∷ 3 ∷ 2 ∷ INF ∷ [] }
     ensures marks { let last = full_replay four_in_line update_of_pairs third_first in
         edge_numbers four_in_line last ≡ 0 ∷ 1 ∷ 0 ∷ [] }
-    ensures no_second_update { IsFullyValid four_in_line update_of_pairs (updates_in_turn 0 (2 ∷ 2 ∷ [])) → ⊥ }
+    ensures no_second_update { IsFullyValid four_in_line update_of_pairs
+        (updates_in_turn 0 (2 ∷ 2 ∷ [])) → ⊥ }
 {}
 
 /// The same line, updated in turn: vertex 1 takes vertex 2, and vertex 3 takes vertex 4.
@@ -32,8 +33,8 @@ pub fn the_line_is_matched_whole()
         edge_numbers four_in_line last ≡ 1 ∷ 0 ∷ 1 ∷ [] }
 {}
 
-/// The same line with a recovery after the update of vertex 3: every vertex is a task again, and the
-/// pair stays.
+/// The same line with a recovery after the update of vertex 3: every vertex is a task again, and
+/// the pair stays.
 pub fn a_restart_keeps_pairs()
     ensures valid { IsFullyValid four_in_line update_of_pairs third_and_again }
     ensures finished { IsFullyFinished four_in_line update_of_pairs third_and_again }

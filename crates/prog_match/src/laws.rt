@@ -15,8 +15,8 @@ pub fn pairs_are_maximal()
         IsMaximalMatching g (full_replay g update_of_pairs order) }
 {}
 
-/// A valid order has at most one update for each vertex after its last restart, so as many updates as
-/// there are vertices are enough.
+/// A valid order has at most one update for each vertex after its last restart, so as many updates
+/// as there are vertices are enough.
 pub fn pairs_need_few_updates()
     ensures { (g : DataGraph) (order : List Entry) → IsFullyValid g update_of_pairs order →
         updates_since_restart order ≤ size g }

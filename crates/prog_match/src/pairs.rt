@@ -8,8 +8,8 @@ use full_scope::{FullProgram, FullScope};
 use gl_base::INF;
 use update_api::Woken;
 
-/// Matches each unmatched vertex with its unmatched neighbour of least identifier, where there is one:
-/// each gets the other's identifier, and the edge between them 1. `INF` stands for no mate.
+/// Matches each unmatched vertex with its unmatched neighbour of least identifier, where there is
+/// one: each gets the other's identifier, and the edge between them 1. `INF` stands for no mate.
 #[derive(Clone, Copy)]
 pub struct Pairs;
 
@@ -49,7 +49,8 @@ fn lowered(least: u64, number: u64, id: u64) -> u64
     if number == INF { least.min(id) } else { least }
 }
 
-/// Gives the unmatched neighbour with this identifier that of the vertex, and the edge between them 1.
+/// Gives the unmatched neighbour with this identifier that of the vertex, and the edge between them
+/// 1.
 fn match_with(scope: &mut FullScope<'_>, mate: u64)
     ensures numbers { let id = scope.old.id in
         AreWritten (λ n. if is_unmatched n && n.id == mate then id else n.near.number)
@@ -100,8 +101,8 @@ mod tests {
         }
     }
 
-    /// Vertex 3 has the neighbours 2 and 4: what its update leaves of its own number, of theirs and of
-    /// the two edges.
+    /// Vertex 3 has the neighbours 2 and 4: what its update leaves of its own number, of theirs and
+    /// of the two edges.
     #[test]
     fn updates_of_the_third_of_four(rt: HostRuntime) {
         let links = [link(2), link(4)];

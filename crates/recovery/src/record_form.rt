@@ -1,4 +1,5 @@
-//! The record of a snapshot that is due is in the form of a store: laws from the events of a cluster to the bytes of a record.
+//! The record of a snapshot that is due is in the form of a store: laws from the events of a
+//! cluster to the bytes of a record.
 
 mod laws;
 

@@ -1,4 +1,5 @@
-//! How a store keeps up with the snapshots of a call: laws from the events of a cluster to the records of a store.
+//! How a store keeps up with the snapshots of a call: laws from the events of a cluster to the
+//! records of a store.
 
 mod laws;
 

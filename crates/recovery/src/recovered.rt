@@ -16,27 +16,38 @@ use update_api::Program;
 /// How many bytes a store without snapshots has.
 const NEW_STORE: u64 = 65;
 
-/// The last snapshot of a store, or the start where there is none. After `DiskFault` open the store again.
+/// The last snapshot of a store, or the start where there is none. After `DiskFault` open the store
+/// again.
 pub fn recover<D: Disk, P: Program>(
     alloc: Global,
     journal: &mut Journal<D>,
     graph: &Graph,
     program: &P,
 ) -> Result<Base, JournalFault>
-    ensures base { IsTrue D.told → IfOk result (IsRecovered graph.now (P.meaning program.now) journal.old.header (snapshots_in D.past journal.old)) }
+    ensures base { IsTrue D.told →
+        IfOk result (IsRecovered graph.now (P.meaning program.now) journal.old.header
+        (snapshots_in D.past journal.old)) }
 
     // From a good store for this graph and program comes a good base.
-    ensures good { IsTrue D.told → (shared : Shared) → shared.graph ≡ graph.now → shared.program ≡ P.meaning program.now →
-        IsHeaderOf graph.now journal.old.header → IsGoodStore shared journal.old.header (snapshots_in D.past journal.old) →
+    ensures good { IsTrue D.told → (shared : Shared) → shared.graph ≡ graph.now →
+        shared.program ≡ P.meaning program.now →
+        IsHeaderOf graph.now journal.old.header →
+        IsGoodStore shared journal.old.header (snapshots_in D.past journal.old) →
         IfOk result (IsGoodBase shared) }
 
     // Whatever the disk holds: it has so many numbers.
     ensures fits { IsHeaderOf graph.now journal.old.header → IfOk result (FitsGraph graph.now) }
 
-    ensures well { IfOk result (λ base. (journal.old.failed ≡ false) × (journal.new.failed ≡ false)) }
-    ensures refused { IfErr result (IsWhyNoLast (IsTrue D.told) journal.old.failed journal.new.failed (D.faults journal.old.disk) (D.faults journal.new.disk)) }
+    ensures well { IfOk result (λ base. (journal.old.failed ≡ false) ×
+        (journal.new.failed ≡ false)) }
+    ensures refused { IfErr result
+        (IsWhyNoLast (IsTrue D.told) journal.old.failed journal.new.failed
+        (D.faults journal.old.disk) (D.faults journal.new.disk)) }
     ensures past { IsTrue D.told → D.past journal.new.disk ≡ D.past journal.old.disk }
-    ensures kept { journal.new ≡ record journal.old { disk = journal.new.disk; failed = journal.new.failed } }
+    ensures kept { journal.new ≡ record journal.old {
+      disk = journal.new.disk;
+      failed = journal.new.failed;
+    } }
     ensures same { D.same journal.old.disk journal.new.disk }
     ensures later { D.faults journal.old.disk ≤ D.faults journal.new.disk }
 {

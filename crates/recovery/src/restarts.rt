@@ -1,4 +1,5 @@
-//! What an attempt that ends with failures goes back to: the store's last snapshot, and the restarts that the store lacks.
+//! What an attempt that ends with failures goes back to: the store's last snapshot, and the
+//! restarts that the store lacks.
 
 mod bases;
 mod failing;

@@ -1,8 +1,8 @@
-//! Reads the lines of scenarios, and writes them as they were seen: for players that print each line again, with what they saw in place
-//! of what is written.
+//! Reads the lines of scenarios, and writes them as they were seen: for players that print each
+//! line again, with what they saw in place of what is written.
 //!
-//! Reading a line never fails. A word that is no number is `u64::MAX`, and memory that is missing leaves text out: both show in what is
-//! printed.
+//! Reading a line never fails. A word that is no number is `u64::MAX`, and memory that is missing
+//! leaves text out: both show in what is printed.
 #![tactic(auto)]
 
 mod lines;

@@ -1,7 +1,8 @@
 //! A line of a scenario: a word, and numbers behind it.
 use std::alloc::Global;
 
-/// A line that is read as a word with numbers behind it. `grant 0 2` has the word `grant` and the numbers 0 and 2.
+/// A line that is read as a word with numbers behind it. `grant 0 2` has the word `grant` and the
+/// numbers 0 and 2.
 #[derive(Drop)]
 pub struct Line<'a> {
     pub word: &'a str,

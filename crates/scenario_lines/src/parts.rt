@@ -1,8 +1,8 @@
 //! The parts of a file: what scenarios begin with, and the scenarios.
 use std::alloc::{AllocError, Global};
 
-/// Splits a file into its parts, each of whole lines. A part begins with the line `given`, or with a line `scenario NAME`; the lines
-/// before the first of these are a part of their own.
+/// Splits a file into its parts, each of whole lines. A part begins with the line `given`, or with
+/// a line `scenario NAME`; the lines before the first of these are a part of their own.
 pub fn parts_of<'a>(alloc: Global, file: &'a str) -> Result<Vec<Vec<&'a str>>, AllocError> {
     let mut parts = Vec::new(alloc);
     parts.push(Vec::new(alloc))?;

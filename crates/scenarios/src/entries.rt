@@ -2,7 +2,8 @@
 use gl_base::Entry;
 use scenario_lines::Page;
 
-/// Adds entries, each behind a blank: the vertex of an update by machine 0 whose ticket is its place in the order, else
+/// Adds entries, each behind a blank: the vertex of an update by machine 0 whose ticket is its
+/// place in the order, else
 /// `ticket:machine:vertex`, and `ticket:restart`.
 pub fn add_entries(page: &mut Page, entries: &[Entry]) {
     for (place, entry) in entries.iter().enumerate() {

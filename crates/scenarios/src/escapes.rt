@@ -1,5 +1,5 @@
-//! Escapes: `\n`, `\r`, `\t`, `\s` for a blank, `\\`, `\e` for nothing, `\xHH` for a byte, and `\#` for the number of a line
-//! that stands for many.
+//! Escapes: `\n`, `\r`, `\t`, `\s` for a blank, `\\`, `\e` for nothing, `\xHH` for a byte, and `\#`
+//! for the number of a line that stands for many.
 use scenario_lines::{number_of, word_of, words_behind};
 use std::alloc::Global;
 
@@ -16,7 +16,8 @@ enum State {
     Malformed,
 }
 
-/// Adds what a line of text stands for: a mark, how often it stands there, a blank and the text. Returns whether it is well formed.
+/// Adds what a line of text stands for: a mark, how often it stands there, a blank and the text.
+/// Returns whether it is well formed.
 pub fn add_lines(alloc: Global, line: &str, text: &mut Vec<u8>) -> bool {
     let mark = word_of(line);
     let count = count_of(mark);

@@ -1,5 +1,5 @@
-//! Plays scenarios, and prints each of their lines again, with what it saw in place of what is written: calls of the engine over
-//! files in memory, which may fail.
+//! Plays scenarios, and prints each of their lines again, with what it saw in place of what is
+//! written: calls of the engine over files in memory, which may fail.
 //!
 //! Its words name files of scenarios. If the engine does what they say, it prints their very text.
 #![tactic(auto)]

@@ -145,7 +145,8 @@ fn are_told(block: &[Section<'_>], word: &str) -> bool {
     false
 }
 
-/// Adds the lists that a call left and that no section speaks of. Of the cause nothing is told unasked.
+/// Adds the lists that a call left and that no section speaks of. Of the cause nothing is told
+/// unasked.
 fn add_other_lines(alloc: Global, page: &mut Page, block: &[Section<'_>], left: &Left) {
     for word in LINES.as_slice() {
         if *word != "cause" && !are_told(block, word) {

@@ -65,8 +65,9 @@ impl Section<'_> {
         self.said == "any" || self.keyword == "any" || self.keyword == "any-disk"
     }
 
-    /// Returns the bytes that its text stands for, or none if it is malformed. The text of `stored NAME COUNT VERTICES` is a store: the
-    /// bytes below, and so many snapshots of a graph with so many vertices, or with none if their number is left out.
+    /// Returns the bytes that its text stands for, or none if it is malformed. The text of `stored
+    /// NAME COUNT VERTICES` is a store: the bytes below, and so many snapshots of a graph with so
+    /// many vertices, or with none if their number is left out.
     pub fn text(&self, alloc: Global) -> Option<Vec<u8>> {
         let mut text = Vec::new(alloc);
         for line in self.lines {

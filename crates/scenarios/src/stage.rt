@@ -6,7 +6,8 @@ use std::alloc::Global;
 /// How many bytes `out` and `note` take where nothing is said of them.
 const MUCH_ROOM: u64 = 1000000;
 
-/// A file or a disk that a scenario names, and its bytes if it is there. A disk that is not there has no bytes.
+/// A file or a disk that a scenario names, and its bytes if it is there. A disk that is not there
+/// has no bytes.
 #[derive(Drop)]
 pub struct Held<'a> {
     pub name: &'a str,

@@ -3,8 +3,9 @@
 /// How many vertices the graph of such a store may have.
 const MOST_VERTICES: u64 = 64;
 
-/// Adds snapshots of the components of a graph without edges, as they stand behind the header of its store, and the gate that ends them:
-/// behind the first one, each has a restart more than the one before it. The vertices have the identifiers from 1 on, and no updates.
+/// Adds snapshots of the components of a graph without edges, as they stand behind the header of
+/// its store, and the gate that ends them: behind the first one, each has a restart more than the
+/// one before it. The vertices have the identifiers from 1 on, and no updates.
 pub fn add_snapshots(store: &mut Vec<u8>, count: u64, vertices: u64) {
     let vertices = vertices.min(MOST_VERTICES);
     for place in 0..count.min(5000) {

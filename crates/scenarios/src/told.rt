@@ -51,7 +51,8 @@ pub fn text_left(alloc: Global, word: &str, left: &Left) -> Vec<u8> {
     }
 }
 
-/// Returns a line for each snapshot: its number, how many entries its order has, and what its numbers come to.
+/// Returns a line for each snapshot: its number, how many entries its order has, and what its
+/// numbers come to.
 fn snapshots(alloc: Global, ended: &Ended) -> Vec<u8> {
     let mut text = String::new(alloc);
     for line in ended.snapshots.iter() {

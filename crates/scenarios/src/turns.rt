@@ -31,8 +31,8 @@ impl<'a> Turns<'a> {
     }
 }
 
-/// Makes the call of a step so many times, in which one call fails in turn, and adds what the first of them left. What a later one
-/// left is added where it differs from what the one before it left.
+/// Makes the call of a step so many times, in which one call fails in turn, and adds what the first
+/// of them left. What a later one left is added where it differs from what the one before it left.
 pub fn play_turns<'a, R: Wait>(
     rt: &R,
     alloc: Global,
@@ -68,7 +68,8 @@ fn add_heads(alloc: Global, step: &Step<'_>, page: &mut Page) {
     }
 }
 
-/// Makes one of these calls, and the call behind it if there is one. Returns what the last of them left.
+/// Makes one of these calls, and the call behind it if there is one. Returns what the last of them
+/// left.
 fn play_turn<R: Wait>(
     rt: &R,
     alloc: Global,

@@ -1,4 +1,5 @@
-//! What a machine keeps of scopes: the locks of its vertices, the pipe of its scopes, the numbers of its ghosts.
+//! What a machine keeps of scopes: the locks of its vertices, the pipe of its scopes, the numbers
+//! of its ghosts.
 #![tactic(auto)]
 
 pub mod ghost_cache;

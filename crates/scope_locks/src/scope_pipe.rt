@@ -1,5 +1,5 @@
-//! The pipeline of scopes of a machine: which scopes were admitted and are in flight, which of them are ready, and where each
-//! scope that has come for locks stands.
+//! The pipeline of scopes of a machine: which scopes were admitted and are in flight, which of them
+//! are ready, and where each scope that has come for locks stands.
 
 mod entered;
 mod flights;

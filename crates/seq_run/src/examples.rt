@@ -17,7 +17,8 @@ pub fn levels_along_a_line()
     ensures finished { IsFinished line_and_point (update_of_levels 1) along_the_line }
     ensures levels { let last = replay line_and_point (update_of_levels 1) along_the_line in
         vertex_numbers line_and_point last ≡ 0 ∷ 1 ∷ 2 ∷ INF ∷ [] }
-    ensures no_second_update { IsValidOrder line_and_point (update_of_levels 1) (updates_in_turn 0 (3 ∷ 3 ∷ [])) → ⊥ }
+    ensures no_second_update { IsValidOrder line_and_point (update_of_levels 1)
+        (updates_in_turn 0 (3 ∷ 3 ∷ [])) → ⊥ }
 {}
 
 /// Levels where an edge leads away from the vertex that is not reached.

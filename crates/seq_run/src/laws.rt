@@ -1,5 +1,5 @@
-//! Laws about orders of updates. Each is the contract of a function that does nothing, and each is about
-//! orders alone: it holds of the order of any run, on however many machines and threads.
+//! Laws about orders of updates. Each is the contract of a function that does nothing, and each is
+//! about orders alone: it holds of the order of any run, on however many machines and threads.
 ghost use Rattle.std.specs.Prelude.{◌≡◌, ℕ, ◌+◌, ◌<◌, ◌≤◌, ◌↔◌, true, false, List, [], ◌∷◌, ◌++◌, slice_get, slice_index, Some};
 ghost use Rattle.gl_base.specs.declared.entries.Entry.{Entry};
 ghost use Rattle.gl_base.specs.declared.entries.Entry.TheVariants.{Go, Restart};
@@ -17,7 +17,8 @@ ghost use Rattle.seq_run.specs.StepBound.{updates_since_restart, step_bound};
 ghost use Rattle.seq_run.specs.TightEdges.{IsTight, IsMark};
 ghost use Rattle.update_api.specs.Updates.{Update, update_of_levels, update_of_components, update_of_paths, update_of_colours, update_of_cores};
 
-/// One more entry at the end of an order: what it does to the numbers and the tasks, and when it may come.
+/// One more entry at the end of an order: what it does to the numbers and the tasks, and when it
+/// may come.
 pub fn orders_go_on()
     ensures replay { (g : DataGraph) (p : Update) (order : List Entry) (entry : Entry) →
         replay g p (order ++ entry ∷ []) ≡ after_entry g p (replay g p order) entry }
@@ -40,7 +41,8 @@ pub fn tasks_are_vertices()
         (order : List Entry) (u : ℕ) → tasks_after g p order u ≡ true → u < size g }
 {}
 
-/// Once no task is left, each vertex has its level from the source, and `INF` where no walk goes there.
+/// Once no task is left, each vertex has its level from the source, and `INF` where no walk goes
+/// there.
 pub fn levels_are_levels()
     ensures { (g : DataGraph) (source : ℕ) → IsDataGraph g → source < size g →
         let levels = update_of_levels (slice_index g.ids source) in
@@ -48,7 +50,8 @@ pub fn levels_are_levels()
         (v : ℕ) → v < size g → IsLevelOrInf g source v ((replay g levels order).vertex v) }
 {}
 
-/// Once no task is left, each vertex has its distance from the source, and `INF` where no walk goes there.
+/// Once no task is left, each vertex has its distance from the source, and `INF` where no walk goes
+/// there.
 pub fn paths_are_distances()
     ensures { (g : DataGraph) (source : ℕ) → IsDataGraph g → source < size g →
         let paths = update_of_paths (slice_index g.ids source) in
@@ -56,7 +59,8 @@ pub fn paths_are_distances()
         (v : ℕ) → v < size g → IsDistanceOrInf g source v ((replay g paths order).vertex v) }
 {}
 
-/// Once no task is left, each edge is marked: 1 where it is tight, and 0 elsewhere. Here `e` is edge number `k`.
+/// Once no task is left, each edge is marked: 1 where it is tight, and 0 elsewhere. Here `e` is
+/// edge number `k`.
 pub fn marks_are_tight()
     ensures { (g : DataGraph) (source : ℕ) → IsDataGraph g →
         let paths = update_of_paths source in
@@ -82,7 +86,8 @@ pub fn colours_are_proper()
         IsProperColouring g (replay g colours order).vertex }
 {}
 
-/// Once no task is left, the colour of each vertex is the least that was free when the vertex got it.
+/// Once no task is left, the colour of each vertex is the least that was free when the vertex got
+/// it.
 pub fn colours_are_least_free()
     ensures { (g : DataGraph) → IsDataGraph g →
         let colours = update_of_colours in

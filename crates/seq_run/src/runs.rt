@@ -18,8 +18,9 @@ use std::alloc::Global;
 use std::marker::Model;
 use update_api::{Link, Program};
 
-/// A run of a program on a graph, whose updates are made one after another. Contracts see the graph, the program and
-/// the order of the updates so far; numbers and tasks are what the replay of this order gives.
+/// A run of a program on a graph, whose updates are made one after another. Contracts see the
+/// graph, the program and the order of the updates so far; numbers and tasks are what the replay of
+/// this order gives.
 #[derive(Drop)]
 pub struct SeqRun<'a, P: Program> {
     graph: &'a Graph,
@@ -37,9 +38,15 @@ impl<'a, P: Program> Model for SeqRun<'a, P> {
 
     ghost Value = { RunView P };
 
-    ghost view = { λ r. record { graph = r.graph.now; program = r.program; order = r.order.items } };
+    ghost view = { λ r. record {
+      graph = r.graph.now;
+      program = r.program;
+      order = r.order.items;
+    } };
 
-    ghost invariant = { λ r. IsStateAfter r.graph.now (P.meaning r.program) r.order.items r.values.items r.edges.items r.tasks };
+    ghost invariant = { λ r.
+        IsStateAfter r.graph.now (P.meaning r.program) r.order.items r.values.items
+        r.edges.items r.tasks };
 }
 
 /// What a run leaves: the order of its updates, and the numbers of the vertices and of the edges.
@@ -51,9 +58,10 @@ pub struct Played {
 }
 
 impl<'a, P: Program> SeqRun<'a, P> {
-    /// A run before its first update. Every vertex is a task. They wait in the order of growth from the vertex with the least
-    /// start number: most are updated behind a neighbour that has its last number then, so labels and levels change seldom.
-    /// Where all start with one number no neighbour is worth waiting for, and they wait in ascending order.
+    /// A run before its first update. Every vertex is a task. They wait in the order of growth from
+    /// the vertex with the least start number: most are updated behind a neighbour that has its
+    /// last number then, so labels and levels change seldom. Where all start with one number no
+    /// neighbour is worth waiting for, and they wait in ascending order.
     pub fn new(alloc: Global, graph: &'a Graph, program: P) -> Result<Self, NoMemory>
         ensures graph { IfOk result (λ run. run.graph ≡ graph.now) }
         ensures program { IfOk result (λ run. run.program ≡ program) }
@@ -72,12 +80,13 @@ impl<'a, P: Program> SeqRun<'a, P> {
         })
     }
 
-    /// Updates a vertex, which has to be a task; one that is none of the graph's is none. It takes time for the edges
-    /// at the vertex, and drops what earlier steps out of turn left at the front of the queue. After a fault the run
-    /// is as before.
+    /// Updates a vertex, which has to be a task; one that is none of the graph's is none. It takes
+    /// time for the edges at the vertex, and drops what earlier steps out of turn left at the front
+    /// of the queue. After a fault the run is as before.
     pub fn step(&mut self, vertex: Vertex) -> Result<(), StepFault>
         ensures updated { OnOk result (self.new ≡ with_updates self.old (vertex.0 ∷ [])) }
-        ensures not_scheduled { IsErrOf result StepFault.NotScheduled ↔ (tasks_left P.meaning self.old vertex.0 ≡ false) }
+        ensures not_scheduled { IsErrOf result StepFault.NotScheduled ↔
+            (tasks_left P.meaning self.old vertex.0 ≡ false) }
         ensures unchanged { OnErr result (self.new ≡ self.old) }
     {
         if !self.is_task(vertex) {
@@ -87,8 +96,9 @@ impl<'a, P: Program> SeqRun<'a, P> {
         Ok(())
     }
 
-    /// Updates the tasks in turn, first in, first out, until none is left, but makes no more than `budget` updates. It
-    /// is `Spent` where so many were made and a task is left. Want of memory keeps the updates so far.
+    /// Updates the tasks in turn, first in, first out, until none is left, but makes no more than
+    /// `budget` updates. It is `Spent` where so many were made and a task is left. Want of memory
+    /// keeps the updates so far.
     pub fn run(&mut self, budget: u64) -> Result<(), RunFault>
         ensures steps { (steps : ℕ) × (steps ≤ budget) × WentOn self.old self.new steps }
         ensures finished { IsOk result ↔ HasNoTask P.meaning self.new }
@@ -107,7 +117,8 @@ impl<'a, P: Program> SeqRun<'a, P> {
         }
     }
 
-    /// The order of the updates so far. It is valid, and machine 0 made each update, with tickets from 0 on.
+    /// The order of the updates so far. It is valid, and machine 0 made each update, with tickets
+    /// from 0 on.
     pub fn order(&self) -> &[Entry]
         ensures order { result.now ≡ self.now.order }
         ensures graph { IsDataGraph self.now.graph }
@@ -126,7 +137,8 @@ impl<'a, P: Program> SeqRun<'a, P> {
 
     /// The numbers of the edges.
     pub fn edges(&self) -> &[u64]
-        ensures { AreNumbers (length self.now.graph.edges) (replayed P.meaning self.now).edge result.now }
+        ensures { AreNumbers (length self.now.graph.edges)
+            (replayed P.meaning self.now).edge result.now }
     {
         &self.edges
     }
@@ -144,10 +156,13 @@ impl<'a, P: Program> SeqRun<'a, P> {
     pub fn finish(self) -> Played
         ensures order { result.order.items ≡ self.entry.order }
         ensures graph { IsDataGraph self.entry.graph }
-        ensures valid { IsValidOrder self.entry.graph (P.meaning self.entry.program) self.entry.order }
+        ensures valid { IsValidOrder self.entry.graph
+            (P.meaning self.entry.program) self.entry.order }
         ensures updates { IsUpdates self.entry.order }
-        ensures values { AreNumbers (size self.entry.graph) (replayed P.meaning self.entry).vertex result.values.items }
-        ensures edges { AreNumbers (length self.entry.graph.edges) (replayed P.meaning self.entry).edge result.edges.items }
+        ensures values { AreNumbers (size self.entry.graph)
+            (replayed P.meaning self.entry).vertex result.values.items }
+        ensures edges { AreNumbers (length self.entry.graph.edges)
+            (replayed P.meaning self.entry).edge result.edges.items }
     {
         Played {
             order: self.order,
@@ -195,7 +210,9 @@ pub fn start_values<P: Program>(
     graph: &Graph,
     program: &P,
 ) -> Result<Vec<u64>, NoMemory>
-    ensures { IfOk result (λ values. AreNumbers (size graph.now) (start_state graph.now (P.meaning program.now)).vertex values.items) }
+    ensures { IfOk result (λ values.
+        AreNumbers (size graph.now)
+        (start_state graph.now (P.meaning program.now)).vertex values.items) }
 {
     let mut values = Vec::with_capacity(alloc, graph.n() as usize)?;
     for v in 0..graph.n() {
@@ -204,8 +221,8 @@ pub fn start_values<P: Program>(
     Ok(values)
 }
 
-/// Every vertex as a task: in the order of growth from the vertex with the least start number, and in ascending order where
-/// all have the same.
+/// Every vertex as a task: in the order of growth from the vertex with the least start number, and
+/// in ascending order where all have the same.
 fn first_tasks(alloc: Global, graph: &Graph, values: &[u64]) -> Result<TaskQueue, NoMemory>
     requires { length values.now ≡ size graph.now }
     ensures count { IfOk result (λ tasks. length tasks ≡ size graph.now) }
@@ -235,8 +252,10 @@ fn is_one_number(values: &[u64]) -> bool
 pub fn least_start(values: &[u64], count: u32) -> Vertex
     requires { length values.now ≡ count }
     ensures inside { 0 < count → result.0 < count }
-    ensures least { (v : ℕ) → v < count → slice_index values.now result.0 ≤ slice_index values.now v }
-    ensures first { (v : ℕ) → v < result.0 → slice_index values.now result.0 < slice_index values.now v }
+    ensures least { (v : ℕ) → v < count →
+        slice_index values.now result.0 ≤ slice_index values.now v }
+    ensures first { (v : ℕ) → v < result.0 →
+        slice_index values.now result.0 < slice_index values.now v }
 {
     let mut least = 0;
     for v in 0..count {

@@ -5,8 +5,9 @@ ghost use Rattle.update_api.specs.Marks.{AreMarked};
 
 use update_api::{Link, Program, Scope, Woken};
 
-/// Updates the vertex with this number and identifier, and these edges at it. The numbers of all vertices
-/// and edges stand in two flat lists, from which the scope is lent; no other number changes.
+/// Updates the vertex with this number and identifier, and these edges at it. The numbers of all
+/// vertices and edges stand in two flat lists, from which the scope is lent; no other number
+/// changes.
 pub fn update_vertex<P: Program>(
     program: &P,
     vertex: usize,
@@ -23,14 +24,16 @@ pub fn update_vertex<P: Program>(
     ensures marks { let mark = (P.meaning program.now).mark (slice_index values.new vertex) in
         AreMarked mark values.old edges.old links.now edges.new }
     ensures woken { result
-        ≡ (P.meaning program.now).woken (slice_index values.old vertex) (slice_index values.new vertex) }
+        ≡ (P.meaning program.now).woken (slice_index values.old vertex)
+        (slice_index values.new vertex) }
 {
     let (low, rest) = values.split_at_mut(vertex);
     let (centre, high) = rest.split_at_mut(1);
     update_centre(program, id, links, low, &mut centre[0], high, edges)
 }
 
-/// The update in its scope, where the vertex's number stands between those before it and those behind it.
+/// The update in its scope, where the vertex's number stands between those before it and those
+/// behind it.
 fn update_centre<P: Program>(
     program: &P,
     id: u64,
@@ -43,7 +46,8 @@ fn update_centre<P: Program>(
     requires { let vertices = length low.now + 1 + length high.now in
         AreLinks links.now (length low.now) vertices (length edges.old) }
     ensures number { let values = low.now ++ centre.old ∷ high.now in
-        centre.new ≡ (P.meaning program.now).number centre.old (nears_at values edges.old links.now) }
+        centre.new ≡ (P.meaning program.now).number centre.old
+        (nears_at values edges.old links.now) }
     ensures marks { let values = low.now ++ centre.old ∷ high.now in
         AreMarked ((P.meaning program.now).mark centre.new) values edges.old links.now edges.new }
     ensures woken { result ≡ (P.meaning program.now).woken centre.old centre.new }

@@ -9,9 +9,9 @@ use std::alloc::Global;
 use std::collections::VecDeque;
 use std::marker::Model;
 
-/// Which vertices are tasks, with room for all of them, so that no later call takes memory. A vertex that is no task
-/// any more may stay in the queue until it comes to the front, and keeps its place if it becomes one again. Contracts
-/// see a flag for each vertex.
+/// Which vertices are tasks, with room for all of them, so that no later call takes memory. A
+/// vertex that is no task any more may stay in the queue until it comes to the front, and keeps its
+/// place if it becomes one again. Contracts see a flag for each vertex.
 #[derive(Drop)]
 pub struct TaskQueue {
     standings: Vec<Standing>,
@@ -37,7 +37,9 @@ impl Model for TaskQueue {
 
     ghost view = { λ q. map is_task q.standings.items };
 
-    ghost invariant = { λ q. IsTaskQueue (map is_task q.standings.items) (map is_queued q.standings.items) q.queue.items q.queue.cap };
+    ghost invariant = { λ q.
+        IsTaskQueue (map is_task q.standings.items) (map is_queued q.standings.items)
+        q.queue.items q.queue.cap };
 }
 
 impl TaskQueue {
@@ -53,11 +55,13 @@ impl TaskQueue {
         Ok(tasks)
     }
 
-    /// A queue in which every vertex of a graph is a task. They wait as they stand in the list, which has each once.
+    /// A queue in which every vertex of a graph is a task. They wait as they stand in the list,
+    /// which has each once.
     pub fn listed(alloc: Global, vertices: &[Vertex]) -> Result<TaskQueue, NoMemory>
         requires { ListsEach (length vertices.now) (numbers_of vertices.now) }
         ensures count { IfOk result (λ tasks. length tasks ≡ length vertices.now) }
-        ensures all { IfOk result (λ tasks. (u : ℕ) → flag tasks u ≡ nat_lt u (length vertices.now)) }
+        ensures all { IfOk result (λ tasks. (u : ℕ) →
+            flag tasks u ≡ nat_lt u (length vertices.now)) }
     {
         let mut tasks = TaskQueue::none(alloc, vertices.len())?;
         for vertex in vertices {
@@ -89,7 +93,8 @@ impl TaskQueue {
 
     /// The first task of the queue, and `None` where there is no task.
     pub fn front(&self) -> Option<Vertex>
-        ensures { MatchOption result ((u : ℕ) → flag self.now u ≡ false) (λ v. flag self.now v.0 ≡ true) }
+        ensures { MatchOption result ((u : ℕ) →
+            flag self.now u ≡ false) (λ v. flag self.now v.0 ≡ true) }
     {
         self.queue.front().copied()
     }
@@ -147,7 +152,8 @@ impl Standing {
 fn drop_done(standings: &mut [Standing], queue: &mut VecDeque<Vertex>)
     requires { IsQueueOf (map is_task standings.old) (map is_queued standings.old) queue.old.items }
     ensures tasks { map is_task standings.new ≡ map is_task standings.old }
-    ensures queue { IsQueueOf (map is_task standings.new) (map is_queued standings.new) queue.new.items }
+    ensures queue { IsQueueOf (map is_task standings.new)
+        (map is_queued standings.new) queue.new.items }
     ensures first { IsTaskFirst (map is_task standings.new) queue.new.items }
     ensures room { deque_capacity queue.new ≡ deque_capacity queue.old }
 {

@@ -13,7 +13,8 @@ use update_api::{Link, Woken};
 pub fn wake(tasks: &mut TaskQueue, woken: Woken, links: &[Link])
     requires { All (λ link. link.near < length tasks.old) links.now }
     ensures count { length tasks.new ≡ length tasks.old }
-    ensures tasks { (u : ℕ) → flag tasks.new u ≡ (is_woken woken (map link_half links.now) u || flag tasks.old u) }
+    ensures tasks { (u : ℕ) →
+        flag tasks.new u ≡ (is_woken woken (map link_half links.now) u || flag tasks.old u) }
 {
     for link in links {
         if is_woken_along(woken, link.direction.leads_out()) {

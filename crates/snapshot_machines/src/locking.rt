@@ -1,4 +1,5 @@
-//! A machine that takes part in snapshots, as a cluster knows it: with what it counts and what it tells the coordinator.
+//! A machine that takes part in snapshots, as a cluster knows it: with what it counts and what it
+//! tells the coordinator.
 
 mod hearing;
 mod members;

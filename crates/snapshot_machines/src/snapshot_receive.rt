@@ -1,4 +1,5 @@
-//! What comes to a machine that takes snapshots, in a cluster of the law to which events have led, it can receive.
+//! What comes to a machine that takes snapshots, in a cluster of the law to which events have led,
+//! it can receive.
 
 mod laws;
 

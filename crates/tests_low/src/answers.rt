@@ -1,4 +1,5 @@
-//! The texts that tell how a run ended: answers, reports and orders; and the folds that reports stand on.
+//! The texts that tell how a run ended: answers, reports and orders; and the folds that reports
+//! stand on.
 ghost use Rattle.std.specs.Prelude.{◌↔◌, IsTrue};
 ghost use Rattle.graph_text.specs.order_text.Orders.{IsEntryOf};
 

@@ -162,7 +162,8 @@ fn print_missing(rt: &impl Print, fault: Option<AtomFault>) -> io::Result<()> {
     }
 }
 
-/// Prints the fault where the byte at a place is raised by one, for all places in turn that have it together.
+/// Prints the fault where the byte at a place is raised by one, for all places in turn that have it
+/// together.
 fn print_raised(rt: &impl Print, name: &str, form: Form, file: &mut [u8]) -> io::Result<()> {
     let mut first = 0;
     let mut last = None;

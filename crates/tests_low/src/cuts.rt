@@ -47,7 +47,8 @@ fn print_machines(rt: &impl Print, machines: &[MachineNo]) -> io::Result<()> {
     println!(rt; "")
 }
 
-/// A graph by a name, with identifiers from 0 on, whether its edges have a direction, where its growth begins, and a number of atoms.
+/// A graph by a name, with identifiers from 0 on, whether its edges have a direction, where its
+/// growth begins, and a number of atoms.
 type Growing = (
     &'static str,
     &'static [u64],
@@ -104,7 +105,8 @@ fn print_growing(
     }
 }
 
-/// Prints the growth order from a vertex, and the atom of each vertex where growth begins with the first.
+/// Prints the growth order from a vertex, and the atom of each vertex where growth begins with the
+/// first.
 fn print_growth(
     rt: &impl Print,
     alloc: Global,

@@ -31,7 +31,8 @@ fn edges_of(alloc: Global, lines: &[Line]) -> Result<Vec<EdgeIn>, AllocError> {
     Ok(edges)
 }
 
-/// The graph of these lists. Lists that are longer than a graph's, and identifiers that are too great, count as want of memory.
+/// The graph of these lists. Lists that are longer than a graph's, and identifiers that are too
+/// great, count as want of memory.
 pub fn build(
     alloc: Global,
     ids: Vec<u64>,

@@ -15,8 +15,9 @@ pub fn write_and_sync(disk: &mut MemDisk) -> Result<(), Failed>
     disk.sync()
 }
 
-/// Of the bytes 1, 2, 3 the one at place 1 is written over by 9. Until a sync a crash may leave any byte there and any bytes
-/// behind the old end, and nothing else; behind the sync it leaves 1, 9, 3, and before it may have left what it might then.
+/// Of the bytes 1, 2, 3 the one at place 1 is written over by 9. Until a sync a crash may leave any
+/// byte there and any bytes behind the old end, and nothing else; behind the sync it leaves 1, 9,
+/// 3, and before it may have left what it might then.
 pub fn images_of_a_write()
     ensures seen { written_over.now.seen ≡ 1 ∷ 9 ∷ 3 ∷ [] }
     ensures old { images_now written_over (1 ∷ 2 ∷ 3 ∷ []) }

@@ -1,7 +1,8 @@
-//! Prints tables of what stands below the cluster: the outside, graphs, their atoms and colourings, texts, and sequential runs.
+//! Prints tables of what stands below the cluster: the outside, graphs, their atoms and colourings,
+//! texts, and sequential runs.
 //!
-//! Each line names a case and tells what was seen of it. What is wanted stands in the file `stdout`: it was worked out by hand, or comes
-//! from another program.
+//! Each line names a case and tells what was seen of it. What is wanted stands in the file
+//! `stdout`: it was worked out by hand, or comes from another program.
 #![tactic(auto)]
 
 mod answers;

@@ -124,7 +124,8 @@ static FAULTS: [(&str, u64, u64); 4] = [
     ("there is room for 70000 bytes", 0, 70000),
 ];
 
-/// Prints how much of 20000 vertices is left where a write fails, and that nothing is left of the edges.
+/// Prints how much of 20000 vertices is left where a write fails, and that nothing is left of the
+/// edges.
 fn print_fronts(rt: &impl Print, alloc: Global) -> io::Result<()> {
     let mut whole = sink(alloc, 0, ROOM)?;
     print_ends(

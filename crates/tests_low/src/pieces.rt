@@ -37,7 +37,8 @@ impl<S: Source> Source for InPieces<S> {
     }
 }
 
-/// The source of a text in pieces of at most `most` bytes, of which the call of the number `failing` fails.
+/// The source of a text in pieces of at most `most` bytes, of which the call of the number
+/// `failing` fails.
 pub fn in_pieces(
     alloc: Global,
     text: &str,

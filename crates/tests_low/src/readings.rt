@@ -115,7 +115,8 @@ fn name_of(form: Form) -> &'static str {
     }
 }
 
-/// Prints what a text is read as in one piece, and once more by each size of pieces where it is another.
+/// Prints what a text is read as in one piece, and once more by each size of pieces where it is
+/// another.
 fn print_reading(rt: &impl Print, alloc: Global, form: Form, text: &str) -> io::Result<()> {
     let whole = reading_of(alloc, form, text, 1000, 0)?;
     println!(rt; "{} {text:?}: {whole}", name_of(form))?;
@@ -133,7 +134,8 @@ fn print_other(rt: &impl Print, most: usize, whole: &str, pieces: &str) -> io::R
     println!(rt; "the same by pieces of {most}: {pieces}")
 }
 
-/// Prints what is read of a text in pieces where a call fails. The text takes four calls: three pieces, and the end.
+/// Prints what is read of a text in pieces where a call fails. The text takes four calls: three
+/// pieces, and the end.
 fn print_failing(
     rt: &impl Print,
     alloc: Global,
@@ -149,8 +151,9 @@ fn print_failing(
     )
 }
 
-/// What is read of a text that comes in pieces of at most `most` bytes, where the call of the number `failing` fails: the
-/// identifiers, the edges by vertices and with their weights, or the fault.
+/// What is read of a text that comes in pieces of at most `most` bytes, where the call of the
+/// number `failing` fails: the identifiers, the edges by vertices and with their weights, or the
+/// fault.
 fn reading_of(
     alloc: Global,
     form: Form,

@@ -48,7 +48,8 @@ static CORES: [Numbers; 5] = [
     (3, 2, 2, 9),
 ];
 
-/// An edge comes from the first neighbour, one leads to the second, and one without direction to the third.
+/// An edge comes from the first neighbour, one leads to the second, and one without direction to
+/// the third.
 static LINKS: [Link; 3] = [
     Link {
         near: 0,
@@ -87,7 +88,8 @@ fn print_updates<P: Program>(
     Ok(())
 }
 
-/// Prints the number of the vertex and those of its edges after an update, and whom it wakes. The vertex has identifier 7.
+/// Prints the number of the vertex and those of its edges after an update, and whom it wakes. The
+/// vertex has identifier 7.
 fn print_update<P: Program>(
     rt: &impl Print,
     name: &str,

@@ -84,7 +84,8 @@ fn print_held<R: Print + rt::Files + Alloc>(rt: &R) -> io::Result<()> {
     println!(rt; "\nfile of that disk: {}", text_of(&held))
 }
 
-/// A writer that takes at most so many bytes of a piece, or none and an error, and whose flush may fail.
+/// A writer that takes at most so many bytes of a piece, or none and an error, and whose flush may
+/// fail.
 #[derive(Drop)]
 struct Fake {
     takes: Option<usize>,

@@ -28,7 +28,8 @@ impl Chances {
     }
 }
 
-/// Prints how many of 1,000 random calls were answered alike. A smaller number is the place of the first that was not.
+/// Prints how many of 1,000 random calls were answered alike. A smaller number is the place of the
+/// first that was not.
 pub fn print_alike(
     rt: &impl Print,
     name: &str,

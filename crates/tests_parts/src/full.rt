@@ -103,7 +103,8 @@ fn print_added(rt: &impl Print, name: &str, answer: Answer) -> io::Result<()> {
     }
 }
 
-/// Prints how many snapshots a store takes, what it answers when it is full, and that it is read again.
+/// Prints how many snapshots a store takes, what it answers when it is full, and that it is read
+/// again.
 pub fn print_full_store(rt: &impl Print, alloc: Global) -> io::Result<()> {
     let header = empty_header();
     let mut disk = quiet_disk(alloc, Vec::new(alloc));

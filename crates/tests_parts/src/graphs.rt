@@ -27,7 +27,8 @@ fn edges_of(alloc: Global, pairs: &[(u64, u64)]) -> Result<Vec<EdgeIn>, AllocErr
     Ok(edges)
 }
 
-/// The graph of these lists. Lists that are longer than a graph's, and identifiers that are too great, count as want of memory.
+/// The graph of these lists. Lists that are longer than a graph's, and identifiers that are too
+/// great, count as want of memory.
 fn build(
     alloc: Global,
     ids: Vec<u64>,

@@ -11,8 +11,8 @@ use local_graph::{LocalGraph, Outline, Side};
 use std::alloc::Global;
 use std::io;
 
-/// A graph by a name, its identifiers, its edges and whether these have a direction, the owner of each vertex, and machines and
-/// vertices that are looked at.
+/// A graph by a name, its identifiers, its edges and whether these have a direction, the owner of
+/// each vertex, and machines and vertices that are looked at.
 type Row = (
     &'static str,
     &'static [u64],
@@ -122,8 +122,8 @@ fn print_machine(
     }
 }
 
-/// Prints the edges of a vertex, each with its other end and the owner of that; the machines of its scope, if it is an own one; and the
-/// own vertices of its scope.
+/// Prints the edges of a vertex, each with its other end and the owner of that; the machines of its
+/// scope, if it is an own one; and the own vertices of its scope.
 fn print_vertex(rt: &impl Print, local: &LocalGraph, v: Vertex) -> io::Result<()> {
     print_sides(rt, local.sides(v))?;
     if local.owns(v) {
@@ -158,7 +158,8 @@ fn print_vertices(rt: &impl Print, vertices: &[Vertex]) -> io::Result<()> {
     println!(rt; "")
 }
 
-/// The part of a machine that has these lines. Lines that are none of the outline's count as want of memory.
+/// The part of a machine that has these lines. Lines that are none of the outline's count as want
+/// of memory.
 pub fn played(
     alloc: Global,
     me: MachineNo,
@@ -181,7 +182,8 @@ pub fn played(
     Ok(local)
 }
 
-/// The part of a machine that has the vertices and ghosts of these lines. Lines that are none of the graph's count as want of memory.
+/// The part of a machine that has the vertices and ghosts of these lines. Lines that are none of
+/// the graph's count as want of memory.
 fn made(
     alloc: Global,
     me: MachineNo,

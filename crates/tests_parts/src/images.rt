@@ -4,8 +4,9 @@ use crate::stored::{print_stored, read_store};
 use std::alloc::{AllocError, Global};
 use std::io;
 
-/// Prints what images between two moments are read as: the new bytes up to each place and what there was of the old ones from there on,
-/// the new bytes with any byte in place of those that were written, and the new bytes.
+/// Prints what images between two moments are read as: the new bytes up to each place and what
+/// there was of the old ones from there on, the new bytes with any byte in place of those that were
+/// written, and the new bytes.
 pub fn print_images(rt: &impl Print, alloc: Global, old: &[u8], new: &[u8]) -> io::Result<()> {
     print_joined(rt, alloc, old, new)?;
     print_spoiled(rt, alloc, old, new)?;

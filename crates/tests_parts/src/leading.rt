@@ -13,8 +13,8 @@ type Worked = (u64, u64, u64, u64);
 
 static PAIR: [Worked; 4] = [(3, 2, 3, 3), (0, 0, 0, 0), (2, 2, 1, 2), (0, 0, 0, 0)];
 
-/// What a coordinator of two colours puts out in turn: a step of this colour, or a wave where there is none; and how many messages
-/// machines 0 and 1 send and receive before.
+/// What a coordinator of two colours puts out in turn: a step of this colour, or a wave where there
+/// is none; and how many messages machines 0 and 1 send and receive before.
 static STEPS: [(u32, Worked); 9] = [
     (1, (0, 0, 0, 0)),
     (0, (1, 0, 0, 0)),
@@ -59,7 +59,8 @@ fn print_pair(rt: &impl Print, coordinator: &mut Coordinator) -> io::Result<()> 
     println!(rt; "pair, a message left for machine 0: {left}")
 }
 
-/// Machines that never rest are led through steps: the next one is due where two waves behind the last were even, and told the same.
+/// Machines that never rest are led through steps: the next one is due where two waves behind the
+/// last were even, and told the same.
 fn print_steps(rt: &impl Print, coordinator: &mut Coordinator) -> io::Result<()> {
     let mut first = WaveCounts::new();
     let mut second = WaveCounts::new();
@@ -113,8 +114,8 @@ fn print_wave(
     print_due(rt, "due", coordinator.due())
 }
 
-/// The machine takes its wave, answers that it is idle or not, and the coordinator receives the answer. Tells whether it held the wave
-/// until then, and the answer was awaited.
+/// The machine takes its wave, answers that it is idle or not, and the coordinator receives the
+/// answer. Tells whether it held the wave until then, and the answer was awaited.
 fn answer(
     coordinator: &mut Coordinator,
     machine: u16,

@@ -1,8 +1,9 @@
-//! Prints tables of the parts of a machine, of the waves and the coordinator that lead machines, of what machines hold of graphs, and of
-//! stores in memory; and how random calls of locks, pipes and task sets are answered beside plain lists.
+//! Prints tables of the parts of a machine, of the waves and the coordinator that lead machines, of
+//! what machines hold of graphs, and of stores in memory; and how random calls of locks, pipes and
+//! task sets are answered beside plain lists.
 //!
-//! Each line names a case and tells what was seen of it. What is wanted stands in the file `stdout`: it was worked out by hand, or comes
-//! from the description of a format.
+//! Each line names a case and tells what was seen of it. What is wanted stands in the file
+//! `stdout`: it was worked out by hand, or comes from the description of a format.
 #![tactic(auto)]
 
 mod chances;

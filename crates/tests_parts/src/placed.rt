@@ -47,7 +47,8 @@ fn print_all(rt: &impl Print, all: &[Numbers]) -> io::Result<()> {
     Ok(())
 }
 
-/// Prints the numbers that a machine keeps of the four vertices, with 0 for one of which it keeps none.
+/// Prints the numbers that a machine keeps of the four vertices, with 0 for one of which it keeps
+/// none.
 fn print_numbers(rt: &impl Print, numbers: &Numbers) -> io::Result<()> {
     let kept = [0, 1, 2, 3].map(|v| numbers.datum(Vertex(v)).value);
     println!(rt;

@@ -106,7 +106,8 @@ fn unclaimed(alloc: Global) -> Result<Vec<Plain>, NoMemory> {
     Ok(plain)
 }
 
-/// Makes 1,000 random calls of both, or those up to the first that they answer otherwise, and tells how many they answer alike.
+/// Makes 1,000 random calls of both, or those up to the first that they answer otherwise, and tells
+/// how many they answer alike.
 fn play(table: &mut LockTable, plain: &mut [Plain], seed: u64) -> Result<u32, NoMemory> {
     let mut chances = Chances::new(seed);
     for count in 0..1000 {

@@ -10,7 +10,8 @@ use std::io;
 
 const WIDTH: usize = 5;
 
-/// A scope that has come, and all that it still wants, what is next first. The last it wants again and again.
+/// A scope that has come, and all that it still wants, what is next first. The last it wants again
+/// and again.
 #[derive(Drop)]
 struct Stand {
     scope: ScopeId,
@@ -145,7 +146,8 @@ impl Both {
         }
     }
 
-    /// Makes 1,000 random calls, or those up to the first that is answered otherwise, and tells how many are answered alike.
+    /// Makes 1,000 random calls, or those up to the first that is answered otherwise, and tells how
+    /// many are answered alike.
     fn play(&mut self, seed: u64, alloc: Global) -> Result<u32, NoMemory> {
         let mut chances = Chances::new(seed);
         for count in 0..1000 {

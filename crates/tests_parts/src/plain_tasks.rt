@@ -10,8 +10,8 @@ const COUNT: u32 = 6;
 
 const WINDOW: u64 = 4;
 
-/// The tasks, the pending vertices, the oldest first, those that are admitted, those of them that were admitted for an update, and
-/// how many updates are outside.
+/// The tasks, the pending vertices, the oldest first, those that are admitted, those of them that
+/// were admitted for an update, and how many updates are outside.
 #[derive(Drop)]
 struct Plain {
     tasks: Vec<Vertex>,
@@ -125,7 +125,8 @@ fn end(set: &mut TaskSet, plain: &mut Plain, v: Vertex) -> bool {
     ran(set, v)
 }
 
-/// Makes 1,000 random calls of both, or those up to the first that they answer otherwise, and tells how many they answer alike.
+/// Makes 1,000 random calls of both, or those up to the first that they answer otherwise, and tells
+/// how many they answer alike.
 fn play(set: &mut TaskSet, plain: &mut Plain, seed: u64) -> Result<u32, NoMemory> {
     let mut chances = Chances::new(seed);
     for count in 0..1000 {

@@ -1,5 +1,5 @@
-//! The store of the examples: two machines, components, two vertices and one edge, with two snapshots. Its bytes are those that
-//! the description of the format gives.
+//! The store of the examples: two machines, components, two vertices and one edge, with two
+//! snapshots. Its bytes are those that the description of the format gives.
 ghost use Rattle.store.specs.snap_journal.Formats.{IsAllowed};
 
 use gl_base::{EdgeNo, Entry, MachineNo, NoMemory, Record, SavedPart, Vertex};

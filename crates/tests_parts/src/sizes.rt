@@ -8,8 +8,8 @@ use std::io;
 /// After how many calls the disk stops.
 static STOPS: [u64; 7] = [0, 1, 2, 3, 7, 11, 15];
 
-/// Prints how many bytes a store has. It takes three calls to make it, of which the second writes, four to open it and four for each of
-/// its two records.
+/// Prints how many bytes a store has. It takes three calls to make it, of which the second writes,
+/// four to open it and four for each of its two records.
 pub fn print_sizes(rt: &impl Print, alloc: Global) -> io::Result<()> {
     for stop in &STOPS {
         print_size(rt, *stop, &filled_store(alloc, Vec::new(alloc), *stop))?;

@@ -13,7 +13,8 @@ fn go(vertex: u32, ticket: u64) -> Entry {
     }
 }
 
-/// Prints what a machine keeps for snapshots: an update before the marks, one behind them, and the section of the snapshot.
+/// Prints what a machine keeps for snapshots: an update before the marks, one behind them, and the
+/// section of the snapshot.
 pub fn print_snaps(rt: &impl Print, alloc: Global) -> io::Result<()> {
     let mut part = SnapPart::new(alloc, 0);
     print_logged(rt, &mut part, 0, 0, 0)?;

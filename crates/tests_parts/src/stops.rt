@@ -24,7 +24,8 @@ const CALLS: u64 = 15;
 /// How many of these make the store. Of a crash among them nothing is promised.
 const MADE: u64 = 3;
 
-/// Makes the store, opens and fills it on a disk whose listed calls fail, and each behind the first `stop`.
+/// Makes the store, opens and fills it on a disk whose listed calls fail, and each behind the first
+/// `stop`.
 pub fn filled_store(alloc: Global, failing: Vec<u64>, stop: u64) -> Result<Filled, NoMemory> {
     let mut disk = MemDisk::new(alloc, Vec::new(alloc), failing, stop);
     let header = header();
@@ -78,8 +79,8 @@ pub fn add(
     Ok(journal.append(alloc, next).is_ok())
 }
 
-/// Prints what is acknowledged, and what the disk reads then, if one call fails. Nothing is promised if that is among those that make
-/// the store.
+/// Prints what is acknowledged, and what the disk reads then, if one call fails. Nothing is
+/// promised if that is among those that make the store.
 pub fn print_failing_calls(rt: &impl Print, alloc: Global) -> io::Result<()> {
     for call in 1..CALLS + 1 {
         match filled_store(alloc, vec![in alloc; call]?, u64::MAX) {

@@ -6,7 +6,8 @@ use std::alloc::{AllocError, Global};
 use std::io;
 use store::snap_journal::{JournalFault, StoreFault};
 
-/// Prints what cuts of the store, other bytes in its header and in its records, and closed gates are read as.
+/// Prints what cuts of the store, other bytes in its header and in its records, and closed gates
+/// are read as.
 pub fn print_edits(rt: &impl Print, alloc: Global) -> io::Result<()> {
     print!(rt; "missing byte of the store, after each number of bytes:")?;
     for count in 0..STORE.len() {
@@ -27,9 +28,10 @@ pub fn print_edits(rt: &impl Print, alloc: Global) -> io::Result<()> {
     Ok(())
 }
 
-/// Bytes at places of the records: lengths one off, a number that is not the next, a count of entries, a vertex that is none, one that
-/// stands twice, a section that lacks one, an edge that is none, and of entries the kind, the zero, the machine, the vertex, a ticket
-/// that is too great, one that falls, and a restart of a machine.
+/// Bytes at places of the records: lengths one off, a number that is not the next, a count of
+/// entries, a vertex that is none, one that stands twice, a section that lacks one, an edge that is
+/// none, and of entries the kind, the zero, the machine, the vertex, a ticket that is too great,
+/// one that falls, and a restart of a machine.
 static EDITS: [(usize, u8); 15] = [
     (72, 61),
     (72, 59),

@@ -36,7 +36,8 @@ static WINDOW: [Call; 16] = [
     Call::Next,
 ];
 
-/// Of tasks those with near keys come first, and a key below theirs comes before them. Which task is next is told by no clause.
+/// Of tasks those with near keys come first, and a key below theirs comes before them. Which task
+/// is next is told by no clause.
 static NEAR: [Call; 30] = [
     Call::Next,
     Call::Ran(0),
@@ -137,7 +138,8 @@ fn print_pick(rt: &impl Print, pick: Option<Pick>) -> io::Result<()> {
     }
 }
 
-/// Each of these makes its call, if it has what the call asks for, and tells whether the vertex is so then.
+/// Each of these makes its call, if it has what the call asks for, and tells whether the vertex is
+/// so then.
 pub fn wake(set: &mut TaskSet, v: Vertex, key: u64) -> bool {
     if v.0 >= set.count() {
         return false;

@@ -1,4 +1,5 @@
-//! The update of a vertex: its row is taken out, and put back with what the update made of its edges.
+//! The update of a vertex: its row is taken out, and put back with what the update made of its
+//! edges.
 ghost use Rattle.std.specs.Prelude.{◌≡◌, ℕ, true, IfOk, length};
 ghost use Rattle.local_graph.specs.Locals.{is_own};
 ghost use Rattle.local_graph.specs.Works.{IsRow};
@@ -56,7 +57,8 @@ fn outcome(alloc: Global, work: Work) -> Result<Outcome, Work>
     Ok(made)
 }
 
-/// Prints the number of vertex 1 of a path after an update whose neighbours had 4. Machine 0 owns it.
+/// Prints the number of vertex 1 of a path after an update whose neighbours had 4. Machine 0 owns
+/// it.
 pub fn print_update(rt: &impl Print, alloc: Global) -> io::Result<()> {
     match graph_of(alloc, &[1, 2, 3], &[(1, 2), (2, 3)], false) {
         Ok(graph) => print_number(rt, updated_in(alloc, &graph)),

@@ -7,8 +7,8 @@ use std::io;
 /// What machines 0 and 1 answer to a wave: how many messages each sent and received.
 static ROWS: [(u64, u64, u64, u64); 4] = [(3, 2, 3, 3), (3, 2, 3, 3), (5, 4, 4, 5), (5, 4, 4, 5)];
 
-/// Prints what each wave shows. While a message is on its way two waves tell the same and show nothing; once it has come, the second
-/// wave that tells the same shows the end.
+/// Prints what each wave shows. While a message is on its way two waves tell the same and show
+/// nothing; once it has come, the second wave that tells the same shows the end.
 pub fn print_waves(rt: &impl Print, alloc: Global) -> io::Result<()> {
     match Waves::new(alloc, 2) {
         Ok(mut waves) => print_rows(rt, &mut waves),

@@ -182,8 +182,8 @@ fn is_granted<M: SavingMachine>(
     }
 }
 
-/// Makes the update, or the snapshot update, of the scope that the line names, or of the next one that is ready. Returns whether it
-/// was made.
+/// Makes the update, or the snapshot update, of the scope that the line names, or of the next one
+/// that is ready. Returns whether it was made.
 fn happens_in_scope<M: SavingMachine>(
     whole: &mut SnapCluster<M>,
     home: MachineNo,

@@ -9,7 +9,8 @@ use seq_run::{RunFault, SeqRun};
 use std::alloc::Global;
 use update_api::Program;
 
-/// Returns `true` if the newest snapshot has the numbers of a run on one thread; of colours, which depend on the order, if neighbours differ.
+/// Returns `true` if the newest snapshot has the numbers of a run on one thread; of colours, which
+/// depend on the order, if neighbours differ.
 pub fn is_answer<P: Program>(
     alloc: Global,
     beginning: &Beginning<'_, P>,

@@ -108,7 +108,8 @@ fn owners_of(alloc: Global, machines: u16) -> Result<Vec<MachineNo>, Trouble> {
     Ok(owner)
 }
 
-/// Returns the numbers with which the plan begins: those that it lists, or else those with which the program starts, and 0 for each edge.
+/// Returns the numbers with which the plan begins: those that it lists, or else those with which
+/// the program starts, and 0 for each edge.
 fn base_of<P: Program>(
     alloc: Global,
     graph: &Graph,
@@ -159,7 +160,8 @@ fn store_of(graph: &Graph, base: &Base) -> Store
     }
 }
 
-/// Returns how updates on the graph are kept apart, and the colour of each vertex if they run by colours.
+/// Returns how updates on the graph are kept apart, and the colour of each vertex if they run by
+/// colours.
 fn kept_apart(
     alloc: Global,
     graph: &Graph,
@@ -178,7 +180,8 @@ fn kept_apart(
 
 /// Returns the places of the graph, if each vertex has a machine.
 fn places_of<P: Program>(alloc: Global, beginning: &Beginning<'_, P>) -> Result<Places, Trouble>
-    ensures places { IfOk result (λ places. ArePlacesOf beginning.now.graph.now places.run.machines places) }
+    ensures places { IfOk result (λ places.
+        ArePlacesOf beginning.now.graph.now places.run.machines places) }
     ensures graph { IfOk result (λ places. IsDataGraph beginning.now.graph.now) }
 {
     let graph = beginning.graph;
@@ -211,14 +214,18 @@ struct Start<P: Program> {
     store: Store,
 }
 
-/// Returns the start from this base, if each vertex has a machine; each machine has admitted so many scopes.
+/// Returns the start from this base, if each vertex has a machine; each machine has admitted so
+/// many scopes.
 fn start_from<P: Program>(
     alloc: Global,
     beginning: &Beginning<'_, P>,
     base: &Base,
     serials: &[u64],
 ) -> Result<Start<P>, Trouble>
-    ensures start { IfOk result (λ start. (next left : ℕ) → (st : Setting) × (view : BaseView) × (before : Cluster) × StartsSaving (IsEngineSaverOf P.meaning) start.machines.items start.engine (store_view start.store) next left st view before) }
+    ensures start { IfOk result (λ start. (next left : ℕ) → (st : Setting) × (view : BaseView) ×
+        (before : Cluster) ×
+        StartsSaving (IsEngineSaverOf P.meaning) start.machines.items start.engine
+        (store_view start.store) next left st view before) }
     ensures many { IfOk result (λ start. length start.machines.items < 65535) }
     ensures newest { IfOk result (λ start. start.store.newest + 1 < 2 ^ 32) }
     ensures length { IfOk result (λ start. start.store.length < 2 ^ 32) }
@@ -237,7 +244,10 @@ fn start_at<P: Program>(
 ) -> Result<Start<P>, Trouble>
     requires places { ArePlacesOf beginning.now.graph.now places.now.run.machines places.now }
     requires graph { IsDataGraph beginning.now.graph.now }
-    ensures start { IfOk result (λ start. (next left : ℕ) → (st : Setting) × (view : BaseView) × (before : Cluster) × StartsSaving (IsEngineSaverOf P.meaning) start.machines.items start.engine (store_view start.store) next left st view before) }
+    ensures start { IfOk result (λ start. (next left : ℕ) → (st : Setting) × (view : BaseView) ×
+        (before : Cluster) ×
+        StartsSaving (IsEngineSaverOf P.meaning) start.machines.items start.engine
+        (store_view start.store) next left st view before) }
     ensures many { IfOk result (λ start. length start.machines.items < 65535) }
     ensures newest { IfOk result (λ start. start.store.newest + 1 < 2 ^ 32) }
     ensures length { IfOk result (λ start. start.store.length < 2 ^ 32) }
@@ -278,7 +288,10 @@ fn first_start<P: Program>(
     beginning: &Beginning<'_, P>,
     base: &Base,
 ) -> Result<Start<P>, Trouble>
-    ensures start { IfOk result (λ start. (next left : ℕ) → (st : Setting) × (view : BaseView) × (before : Cluster) × StartsSaving (IsEngineSaverOf P.meaning) start.machines.items start.engine (store_view start.store) next left st view before) }
+    ensures start { IfOk result (λ start. (next left : ℕ) → (st : Setting) × (view : BaseView) ×
+        (before : Cluster) ×
+        StartsSaving (IsEngineSaverOf P.meaning) start.machines.items start.engine
+        (store_view start.store) next left st view before) }
     ensures many { IfOk result (λ start. length start.machines.items < 65535) }
     ensures newest { IfOk result (λ start. start.store.newest + 1 < 2 ^ 32) }
     ensures length { IfOk result (λ start. start.store.length < 2 ^ 32) }

@@ -119,7 +119,8 @@ fn take_due<P: Program, M: SavingMachine>(
     Ok(())
 }
 
-/// Lets each machine fail that has reached the count of a failure, and all go back to the newest snapshot.
+/// Lets each machine fail that has reached the count of a failure, and all go back to the newest
+/// snapshot.
 fn go_back<P: Program>(alloc: Global, call: &mut Call<'_, P>) -> Result<(), Trouble> {
     let failures = failures_of(alloc, &mut call.course, call.beginning.machines)?;
     let base = base_behind_failures(alloc, call, failures)?;
@@ -160,8 +161,8 @@ fn has_machine<M: SavingMachine>(course: &Course<M>, at: MachineNo) -> bool
     (at.0 as usize) < course.machines()
 }
 
-/// Lets the machine fail if it has reached the count of a failure, which makes no update any more; and no other may. Returns whether it
-/// has failed.
+/// Lets the machine fail if it has reached the count of a failure, which makes no update any more;
+/// and no other may. Returns whether it has failed.
 fn fails<M: SavingMachine>(course: &mut Course<M>, at: MachineNo) -> Result<bool, Trouble> {
     let reached = has_machine(course, at) && course.has_reached(at);
     if reached && is_updated(course, at) {

@@ -35,8 +35,9 @@ impl Chances {
     }
 }
 
-/// Lets things happen by chance, or be refused, in a cluster of its own for each seed, which is driven to its end then. The line says how
-/// many seeds and how many things. Returns `true` if all is well.
+/// Lets things happen by chance, or be refused, in a cluster of its own for each seed, which is
+/// driven to its end then. The line says how many seeds and how many things. Returns `true` if all
+/// is well.
 pub fn play_seeds<P: Program>(
     alloc: Global,
     beginning: &Beginning<'_, P>,
@@ -149,7 +150,8 @@ fn some_event<P: Program>(scene: &mut Scene<'_, P>, chances: &mut Chances) -> Ev
     Event::Passage(passage)
 }
 
-/// Returns what might happen if vertices run by colours: a step, a wave or a snapshot begins, or word of one goes on.
+/// Returns what might happen if vertices run by colours: a step, a wave or a snapshot begins, or
+/// word of one goes on.
 fn some_turn(chances: &mut Chances, at: MachineNo) -> Event {
     Event::Passage(match chances.below(12) {
         0..=1 => Passage::SendCall(at),

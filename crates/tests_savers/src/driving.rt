@@ -11,7 +11,8 @@ use update_api::Program;
 /// How many rounds are made at most, and how many events in one turn of a machine.
 const MOST: u32 = 1000000;
 
-/// Makes rounds, and what the coordinator has due, until the end is due, or until a record is. Returns `true` then.
+/// Makes rounds, and what the coordinator has due, until the end is due, or until a record is.
+/// Returns `true` then.
 pub fn drive<P: Program>(
     alloc: Global,
     scene: &mut Scene<'_, P>,
@@ -32,14 +33,16 @@ pub fn drive<P: Program>(
     Err(Trouble::Because("no end comes"))
 }
 
-/// Where a cluster stands: at its end, at a record that is due, or behind what was due, which moved something or not.
+/// Where a cluster stands: at its end, at a record that is due, or behind what was due, which moved
+/// something or not.
 enum Stand {
     Ended,
     Record,
     GoesOn(bool),
 }
 
-/// Does what the coordinator has due, but for a record; or else makes a round, and puts a wave out if nothing moves.
+/// Does what the coordinator has due, but for a record; or else makes a round, and puts a wave out
+/// if nothing moves.
 fn go_on<M: SavingMachine>(whole: &mut SnapCluster<M>, machines: u16) -> Result<Stand, Trouble> {
     let moved = match whole.due() {
         Due::Ended => return Ok(Stand::Ended),
@@ -62,7 +65,8 @@ fn round<M: SavingMachine>(whole: &mut SnapCluster<M>, machines: u16) -> Result<
     Ok(moved)
 }
 
-/// Does what the machine may do by itself, until there is nothing. Returns whether there was something.
+/// Does what the machine may do by itself, until there is nothing. Returns whether there was
+/// something.
 pub fn settle<M: SavingMachine>(
     whole: &mut SnapCluster<M>,
     at: MachineNo,
@@ -106,7 +110,8 @@ fn next_of<M: SavingMachine>(
     Ok(None)
 }
 
-/// Grants locks and brings messages between machines, until there is nothing of that. Returns `true` then.
+/// Grants locks and brings messages between machines, until there is nothing of that. Returns
+/// `true` then.
 pub fn bring<M: SavingMachine>(whole: &mut SnapCluster<M>, machines: u16) -> Result<bool, Trouble> {
     for _ in 0..MOST {
         let mut moved = false;

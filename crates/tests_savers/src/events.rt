@@ -1,4 +1,5 @@
-//! What happens in a cluster, or may not happen now: of machines of any kind, of which nothing more need be known.
+//! What happens in a cluster, or may not happen now: of machines of any kind, of which nothing more
+//! need be known.
 ghost use Rattle.std.specs.Prelude.{◌≡◌, ◌<◌, true, IsTrue, length};
 ghost use Rattle.cluster_step.specs.clusters.Events.{NamesItsMachines, NamesLocal, NamesPassage};
 
@@ -8,7 +9,8 @@ use cluster_step::clusters::{Event, Local, Passage, SavingMachine, SnapCluster};
 use gl_base::{MachineNo, Record, Refused, ScopeId, Vertex};
 use std::alloc::Global;
 
-/// Lets the event happen, and returns whether it has. What is refused leaves no change that is read of the cluster.
+/// Lets the event happen, and returns whether it has. What is refused leaves no change that is read
+/// of the cluster.
 pub fn happens<M: SavingMachine>(
     whole: &mut SnapCluster<M>,
     event: Event,
@@ -93,7 +95,8 @@ pub fn next_grant<M: SavingMachine>(whole: &mut SnapCluster<M>, at: MachineNo) -
     }
 }
 
-/// Returns the next scope of the machine that is ready for its update, or for its snapshot update, if one is.
+/// Returns the next scope of the machine that is ready for its update, or for its snapshot update,
+/// if one is.
 pub fn next_scope<M: SavingMachine>(
     whole: &SnapCluster<M>,
     home: MachineNo,

@@ -172,7 +172,8 @@ fn id_of(graph: &Graph, v: Vertex) -> u64 {
     }
 }
 
-/// Writes the identifiers of the vertices that were updated, and the restarts, each behind its ticket; or `none`.
+/// Writes the identifiers of the vertices that were updated, and the restarts, each behind its
+/// ticket; or `none`.
 fn add_entries(graph: &Graph, entries: &[Entry], page: &mut Page) {
     if entries.is_empty() {
         page.add(" none");

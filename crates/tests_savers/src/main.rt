@@ -1,6 +1,8 @@
-//! Plays scenarios of a cluster that takes snapshots, and prints each of their lines as it was seen.
+//! Plays scenarios of a cluster that takes snapshots, and prints each of their lines as it was
+//! seen.
 //!
-//! Its words name files of scenarios. What it prints is their text, one file after the other, if everything in them is so.
+//! Its words name files of scenarios. What it prints is their text, one file after the other, if
+//! everything in them is so.
 #![tactic(auto)]
 
 mod acts;

@@ -16,15 +16,17 @@ const MOST_SCOPES: u64 = 4;
 /// How many steps are made at most.
 const MOST_STEPS: u64 = 100000000;
 
-/// The places of what has happened in the list of all that might, and the place of what is tried next.
+/// The places of what has happened in the list of all that might, and the place of what is tried
+/// next.
 #[derive(Drop)]
 struct Walk {
     chosen: Vec<usize>,
     next: usize,
 }
 
-/// Lets happen each list of so many things that may happen one after another from the beginning, in a cluster of its own. Behind each the
-/// cluster is driven to its end. Returns `true` if all is well.
+/// Lets happen each list of so many things that may happen one after another from the beginning, in
+/// a cluster of its own. Behind each the cluster is driven to its end. Returns `true` if all is
+/// well.
 pub fn play_orders<P: Program>(
     alloc: Global,
     beginning: &Beginning<'_, P>,
@@ -77,7 +79,8 @@ fn go_on<P: Program>(
     Ok(())
 }
 
-/// Goes back by one thing, and drives a list that is whole to its end before that. Returns whether there was one.
+/// Goes back by one thing, and drives a list that is whole to its end before that. Returns whether
+/// there was one.
 fn go_back<P: Program>(
     alloc: Global,
     scene: &mut Scene<'_, P>,
@@ -102,7 +105,8 @@ fn go_back<P: Program>(
     Ok(true)
 }
 
-/// Returns all that might happen, but for records, failures, the end of the run, and what later scopes do.
+/// Returns all that might happen, but for records, failures, the end of the run, and what later
+/// scopes do.
 fn all_events<P: Program>(
     alloc: Global,
     beginning: &Beginning<'_, P>,

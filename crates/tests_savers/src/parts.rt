@@ -21,7 +21,8 @@ pub fn play_file<R: Files + Print + AllocGlobal + Wait>(rt: &R, file: &str) -> i
     print!(rt; "{}", page.as_str())
 }
 
-/// Plays the parts in turn, each behind what was given last. What is given is played too, as a scenario of its own.
+/// Plays the parts in turn, each behind what was given last. What is given is played too, as a
+/// scenario of its own.
 fn play_parts<R: AllocGlobal + Wait>(rt: &R, parts: &[Vec<&str>], page: &mut Page) {
     let mut last = 0;
     for (place, part) in parts.iter().enumerate() {

@@ -77,7 +77,8 @@ static PARTS: [(&str, Part); 20] = [
     ("driven", Part::Driven),
 ];
 
-/// Takes what the first lines say of the cluster, writes them as they were taken, and returns how many they are.
+/// Takes what the first lines say of the cluster, writes them as they were taken, and returns how
+/// many they are.
 pub fn take_lines(alloc: Global, plan: &mut Plan, lines: &[&str], page: &mut Page) -> usize {
     for (place, text) in lines.iter().enumerate() {
         if is_remark(text) {
@@ -102,7 +103,8 @@ fn part_of(text: &str) -> Option<Part> {
 }
 
 impl Plan {
-    /// Makes a plan of no vertices, components, locks, one scope in flight, a window of four updates, and many tickets.
+    /// Makes a plan of no vertices, components, locks, one scope in flight, a window of four
+    /// updates, and many tickets.
     pub fn new(alloc: Global) -> Plan {
         Plan {
             vertices: Vec::new(alloc),
@@ -189,7 +191,8 @@ impl Plan {
         }
     }
 
-    /// Takes failures that are written as `0:5`: machine 0 fails where it has completed five updates.
+    /// Takes failures that are written as `0:5`: machine 0 fails where it has completed five
+    /// updates.
     fn take_failures(&mut self, text: &str, page: &mut Page) {
         page.add(word_of(text));
         for word in words_behind(text).split(' ') {

@@ -8,7 +8,8 @@ use scenario_lines::{Line, Page, is_remark};
 use std::alloc::Global;
 use update_api::Program;
 
-/// Plays the lines behind what is given on a cluster that begins so, and writes each as it was seen.
+/// Plays the lines behind what is given on a cluster that begins so, and writes each as it was
+/// seen.
 pub fn play_events<P: Program>(
     alloc: Global,
     beginning: &Beginning<'_, P>,
@@ -56,7 +57,8 @@ fn play_line<P: Program>(alloc: Global, scene: &mut Scene<'_, P>, text: &str, pa
     }
 }
 
-/// Plays once more a line for which the cluster found no memory, and writes that. It has to happen then.
+/// Plays once more a line for which the cluster found no memory, and writes that. It has to happen
+/// then.
 fn play_again<P: Program>(
     alloc: Global,
     scene: &mut Scene<'_, P>,

@@ -76,7 +76,8 @@ fn look_at<P: Program>(
     has_numbers(alloc, record, &kept.newest)
 }
 
-/// Returns where an entry stands in an order: by its ticket, and a restart before an update with the same.
+/// Returns where an entry stands in an order: by its ticket, and a restart before an update with
+/// the same.
 fn rank(entry: Entry) -> u128 {
     match entry {
         Entry::Go { ticket, .. } => 2 * ticket as u128 + 1,

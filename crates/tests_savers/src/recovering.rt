@@ -12,8 +12,9 @@ use recovery::restarts::{base_behind, count_failed};
 use std::alloc::Global;
 use update_api::Program;
 
-/// Lets all machines go back to the newest snapshot, with a restart for each that has failed, if one has. Returns whether one had. If
-/// values are given, the vertices have these in place of the snapshot's, and replays begin with them from then on.
+/// Lets all machines go back to the newest snapshot, with a restart for each that has failed, if
+/// one has. Returns whether one had. If values are given, the vertices have these in place of the
+/// snapshot's, and replays begin with them from then on.
 pub fn go_back<P: Program>(
     alloc: Global,
     scene: &mut Scene<'_, P>,
@@ -38,7 +39,8 @@ fn failures_of<M: SavingMachine>(alloc: Global, whole: &SnapCluster<M>) -> Resul
     Ok(count_failed(&flags))
 }
 
-/// Returns the newest snapshot with these values, if there are some, and with the restarts that the store lacks.
+/// Returns the newest snapshot with these values, if there are some, and with the restarts that the
+/// store lacks.
 fn base_behind_failures<P: Program>(
     alloc: Global,
     scene: &mut Scene<'_, P>,
@@ -53,7 +55,8 @@ fn base_behind_failures<P: Program>(
     Ok(base_behind(base, &scene.kept.lacking)?)
 }
 
-/// Puts the values into the base, if there are some, and keeps the restarts that the store lacks behind it.
+/// Puts the values into the base, if there are some, and keeps the restarts that the store lacks
+/// behind it.
 fn prepare<P: Program>(
     alloc: Global,
     scene: &mut Scene<'_, P>,

@@ -56,7 +56,8 @@ impl Numbers {
     }
 }
 
-/// Returns the numbers to which an order leads from these on. At first and behind each restart every vertex is a task.
+/// Returns the numbers to which an order leads from these on. At first and behind each restart
+/// every vertex is a task.
 pub fn replay<P: Program>(
     alloc: Global,
     graph: &Graph,
@@ -140,7 +141,8 @@ fn make_updates<P: Program>(run: &mut SeqRun<'_, P>, part: &[Entry]) -> Result<(
     Ok(())
 }
 
-/// Makes one update more, whose ticket is no less than this. Returns the least that the next may have.
+/// Makes one update more, whose ticket is no less than this. Returns the least that the next may
+/// have.
 fn step<P: Program>(run: &mut SeqRun<'_, P>, entry: Entry, least: u64) -> Result<u64, Trouble> {
     match entry {
         Entry::Go { vertex, ticket, .. } if ticket >= least => match run.step(vertex) {

@@ -5,7 +5,8 @@ use gl_base::Entry;
 use recovery::restarts::missing_restarts;
 use std::alloc::Global;
 
-/// Returns the restarts that the store lacks: those that it lacked as the attempt began, and those of so many failures with this ticket.
+/// Returns the restarts that the store lacks: those that it lacked as the attempt began, and those
+/// of so many failures with this ticket.
 pub fn missing_of(
     alloc: Global,
     kept: &Kept,

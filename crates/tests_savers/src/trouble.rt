@@ -5,7 +5,8 @@ use std::alloc::{AllocError, AllocFailed};
 /// Why a line is not played.
 #[derive(Clone, Copy)]
 pub enum Trouble {
-    /// The cluster found no memory for what should happen, and nothing that is read of it has changed.
+    /// The cluster found no memory for what should happen, and nothing that is read of it has
+    /// changed.
     NoMemory,
     /// Anything else, in words that are printed behind the line.
     Because(&'static str),

@@ -29,8 +29,8 @@ impl Direction {
     }
 }
 
-/// An edge at a vertex: the places of the other end's number and of the edge's own, its weight, and how
-/// it leads.
+/// An edge at a vertex: the places of the other end's number and of the edge's own, its weight, and
+/// how it leads.
 #[derive(Clone, Copy)]
 pub struct Link {
     pub near: u32,

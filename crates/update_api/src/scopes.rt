@@ -5,9 +5,9 @@ ghost use Rattle.update_api.specs.Links.{AreLinks};
 
 use crate::{Direction, Link};
 
-/// What an update of a vertex may use: its identifier, its own number, which is the centre, and for each
-/// edge at it the number of the other end and the edge's own number. All of it is lent, and nothing is
-/// copied. The update may write the centre and the numbers of these edges.
+/// What an update of a vertex may use: its identifier, its own number, which is the centre, and for
+/// each edge at it the number of the other end and the edge's own number. All of it is lent, and
+/// nothing is copied. The update may write the centre and the numbers of these edges.
 #[derive(Drop)]
 pub struct Scope<'a> {
     id: u64,
@@ -23,9 +23,9 @@ pub struct Scope<'a> {
 impl<'a> Scope<'a> {
     ghost use Rattle.update_api.specs.Scopes.{numbers, link_at, LendsCentre, LendsEdge, LendsEdgeAt};
 
-    /// The scope of the vertex with this identifier. The numbers before its own, its own, and those behind
-    /// it are one list in three pieces: each link leads to a place of it other than the centre's, and has
-    /// an edge that no other link has.
+    /// The scope of the vertex with this identifier. The numbers before its own, its own, and those
+    /// behind it are one list in three pieces: each link leads to a place of it other than the
+    /// centre's, and has an edge that no other link has.
     pub fn new(
         id: u64,
         links: &'a [Link],

@@ -1,4 +1,5 @@
-//! Which updates the snapshots of a cluster have, what a recovery goes back to, when machines ask for a snapshot, and how many are stored.
+//! Which updates the snapshots of a cluster have, what a recovery goes back to, when machines ask
+//! for a snapshot, and how many are stored.
 mod examples;
 mod laws;
 

@@ -1,5 +1,6 @@
-//! A cluster as a whole, with its coordinator: whatever happens, failures and recoveries among it, its scopes exclude one another, its
-//! logs are the parts of one valid order, and its snapshots are cuts of that order.
+//! A cluster as a whole, with its coordinator: whatever happens, failures and recoveries among it,
+//! its scopes exclude one another, its logs are the parts of one valid order, and its snapshots are
+//! cuts of that order.
 mod laws;
 
 pub use laws::{

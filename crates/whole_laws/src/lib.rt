@@ -1,4 +1,5 @@
-//! The laws of a whole cluster: its coordinator, what stays of its orders, its end, attempts and calls.
+//! The laws of a whole cluster: its coordinator, what stays of its orders, its end, attempts and
+//! calls.
 #![tactic(auto)]
 
 pub mod cluster_ending;

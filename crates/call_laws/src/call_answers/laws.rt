@@ -26,31 +26,48 @@ ghost use Rattle.call_laws.specs.whole_calls.Opened.{IsCourseOfCall};
 ghost use Rattle.call_laws.specs.whole_calls.Saved.{AreNextOrders, AreSnapshotsOf, fronts_in, recorded_in};
 ghost use Rattle.call_laws.specs.whole_calls.Telling.{HasSavedTheEnd, TellsOfCall};
 
-/// The lists of a call of attempts are those of a run with failures. The failures of its last attempt that were reached go unanswered.
+/// The lists of a call of attempts are those of a run with failures. The failures of its last
+/// attempt that were reached go unanswered.
 pub fn calls_are_runs()
-    ensures { (shared : Shared) (machines : ℕ) (call : EngineCall) (lists : RunLists) → IsEngineCall shared call →
-        lists.order ≡ call_order call → lists.lost ≡ lost_of call → AreEach machines (λ m count. count ≡ done_of call m) lists.done →
-        lists.fired ≡ reached_places (done_of call) 0 shared.failures → AllByRecursion (IsByMachineBelow machines) (made_of call) →
+    ensures { (shared : Shared) (machines : ℕ) (call : EngineCall) (lists : RunLists) →
+        IsEngineCall shared call →
+        lists.order ≡ call_order call → lists.lost ≡ lost_of call →
+        AreEach machines (λ m count. count ≡ done_of call m) lists.done →
+        lists.fired ≡ reached_places (done_of call) 0 shared.failures →
+        AllByRecursion (IsByMachineBelow machines) (made_of call) →
         IsRunWithFailures shared machines call.base call.resumed call.last.struck lists }
 {}
 
-/// The lists of a cluster to which events led, from the opening of a call on, are those of a run with failures; and where snapshots are taken they keep to
-/// the window, for the orders of the snapshots that were acknowledged. Where the waves have shown the end and no snapshot is due, the run is finished; and where no ticket is left and no
-/// failure was reached, it is spent at each task. There is a call of attempts of which all of this holds at once.
+/// The lists of a cluster to which events led, from the opening of a call on, are those of a run
+/// with failures; and where snapshots are taken they keep to the window, for the orders of the
+/// snapshots that were acknowledged. Where the waves have shown the end and no snapshot is due, the
+/// run is finished; and where no ticket is left and no failure was reached, it is spent at each
+/// task. There is a call of attempts of which all of this holds at once.
 pub fn courses_are_runs()
-    ensures { (st : Setting) (failures : List FailureAt) (kept : List Entry) (resumed : Bool) (base : BaseView) (first : Cluster) (events : List Event) (c : Cluster)
-        (lists : RunLists) → IsCourseOfCall st failures kept resumed base first events c → ListsOfCourse st failures base first events c lists →
+    ensures { (st : Setting) (failures : List FailureAt) (kept : List Entry) (resumed : Bool)
+        (base : BaseView) (first : Cluster) (events : List Event) (c : Cluster)
+        (lists : RunLists) → IsCourseOfCall st failures kept resumed base first events c →
+        ListsOfCourse st failures base first events c lists →
         (call : EngineCall)
         × IsCallOf st failures kept resumed c call
         × IsRunWithFailures (shared_of st failures) st.machines kept resumed call.last.struck lists
         × (lists.order ≡ call_order call)
         × (st.stored ≡ true → KeepsToWindow st.window kept (snapshots_of call) lists)
-        × AreSnapshotsOf st base.number kept (recorded_in (going_on st base.numbers base.number) (recovers st base first) events) (snapshots_of call)
-        × AreNextOrders st kept (fronts_in (going_on st base.numbers base.number) (recovers st base first) events) (recorded_in (going_on st base.numbers base.number) (recovers st base first) events) (snapshots_of call)
-        × (0 < half_window st → length (snapshots_of call) + under_way c ≤ first.left / half_window st + 1)
+        × AreSnapshotsOf st base.number kept
+        (recorded_in (going_on st base.numbers base.number) (recovers st base first) events)
+        (snapshots_of call)
+        × AreNextOrders st kept
+        (fronts_in (going_on st base.numbers base.number) (recovers st base first) events)
+        (recorded_in (going_on st base.numbers base.number) (recovers st base first) events)
+        (snapshots_of call)
+        × (0 < half_window st →
+        length (snapshots_of call) + under_way c ≤ first.left / half_window st + 1)
         × (sum_by (λ count. count) lists.done + c.left ≡ first.left)
         × TellsOfCall st first.left c call
-        × (st.stored ≡ true → HasSavedTheEnd st c.coordinator → FinishesRun true (shared_of st failures) kept (snapshots_of call) call.last.struck lists)
-        × ((left : ℕ) → c.left ≡ 0 → ((a : ℕ) → a < st.machines → has_reached failures c a ≡ false) → left < size st.graph → IsTask st (world_of c) left →
+        × (st.stored ≡ true → HasSavedTheEnd st c.coordinator →
+        FinishesRun true (shared_of st failures) kept (snapshots_of call) call.last.struck lists)
+        × ((left : ℕ) → c.left ≡ 0 →
+        ((a : ℕ) → a < st.machines → has_reached failures c a ≡ false) → left < size st.graph →
+        IsTask st (world_of c) left →
         SpendsRun (shared_of st failures) first.left left call.last.struck lists) }
 {}

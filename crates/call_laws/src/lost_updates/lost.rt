@@ -7,8 +7,8 @@ ghost use Rattle.call_laws.specs.lost_updates.Inner.Tickets.{Rise, kept_lacking,
 use gl_base::{Entry, NoMemory};
 use std::alloc::Global;
 
-/// The updates of a list whose tickets no update of an order has, in their turn. The time is linear in both, times the logarithm of the order's
-/// length.
+/// The updates of a list whose tickets no update of an order has, in their turn. The time is linear
+/// in both, times the logarithm of the order's length.
 pub fn lost_updates(alloc: Global, order: &[Entry], made: &[Entry]) -> Result<Vec<Entry>, NoMemory>
     ensures { IfOk result (λ lost. lost.items ≡ filter (is_lacking order.now) made.now) }
 {
@@ -34,7 +34,8 @@ fn push_lacking(lost: &mut Vec<Entry>, tickets: &[u64], entry: Entry) -> Result<
 /// The tickets of an order's updates, ascending.
 fn update_tickets(alloc: Global, order: &[Entry]) -> Result<Vec<u64>, NoMemory>
     ensures rise { IfOk result (λ tickets. Rise tickets.items) }
-    ensures tickets { IfOk result (λ tickets. (t : ℕ) → list_any (λ ticket. ticket == t) tickets.items ≡ list_any (is_update_at t) order.now) }
+    ensures tickets { IfOk result (λ tickets. (t : ℕ) →
+        list_any (λ ticket. ticket == t) tickets.items ≡ list_any (is_update_at t) order.now) }
 {
     let mut tickets = tickets_in_turn(alloc, order)?;
     tickets.sort_unstable();

@@ -16,25 +16,28 @@ pub fn starts_have_numbers()
     ensures replay { (st : Setting) (w : World) → IsSetting st → IsStart st w → IsReplay st w [] }
 {}
 
-/// Each action that may happen keeps the copies true, and the numbers and tasks those of the order, which goes on. Of the
-/// scopes it is used only that they exclude one another.
+/// Each action that may happen keeps the copies true, and the numbers and tasks those of the order,
+/// which goes on. Of the scopes it is used only that they exclude one another.
 pub fn actions_keep_numbers()
     ensures { (st : Setting) (w : World) (action : Action) (order : List Entry) →
-        IsSetting st → IsExclusive st w → MayHappen st w action → AreCopies st w → IsReplay st w order →
-        AreCopies st (after st w action) × (rest : List Entry) × IsReplay st (after st w action) (order ++ rest) }
+        IsSetting st → IsExclusive st w → MayHappen st w action →
+        AreCopies st w → IsReplay st w order →
+        AreCopies st (after st w action) × (rest : List Entry) ×
+        IsReplay st (after st w action) (order ++ rest) }
 {}
 
-/// An update that may happen is fresh: its machine lends it the numbers that the replay of the order has there, of the vertex,
-/// of its edges and of its neighbours.
+/// An update that may happen is fresh: its machine lends it the numbers that the replay of the
+/// order has there, of the vertex, of its edges and of its neighbours.
 pub fn updates_are_fresh()
-    ensures { (st : Setting) (w : World) (order : List Entry) (s : ScopeId) (may : MayUpdate s (w.part s.home.0) w.left) →
+    ensures { (st : Setting) (w : World) (order : List Entry) (s : ScopeId)
+        (may : MayUpdate s (w.part s.home.0) w.left) →
         IsSetting st → IsExclusive st w → AreCopies st w → IsReplay st w order →
         IsFresh st (replay_of st order) (w.part s.home.0) may.vertex }
 {}
 
-/// Whatever happens from a start on, where in each world on the way scopes exclude one another: the copies are true, and there is
-/// one valid order whose replay on the undivided graph has the numbers of all owners and their tasks, and whose parts are the
-/// logs.
+/// Whatever happens from a start on, where in each world on the way scopes exclude one another: the
+/// copies are true, and there is one valid order whose replay on the undivided graph has the
+/// numbers of all owners and their tasks, and whose parts are the logs.
 pub fn runs_keep_numbers()
     ensures { (st : Setting) (start : World) (actions : List Action) (new : World) →
         IsSetting st → IsStart st start → IsApartRun st start actions new →

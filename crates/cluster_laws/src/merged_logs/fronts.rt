@@ -10,8 +10,8 @@ use std::alloc::Global;
 use std::cmp::Reverse;
 use std::collections::BinaryHeap;
 
-/// An entry of a log: the place where it stands, and its ticket. Of two the one with the lower ticket is greater, since a heap
-/// gives the greatest.
+/// An entry of a log: the place where it stands, and its ticket. Of two the one with the lower
+/// ticket is greater, since a heap gives the greatest.
 #[derive(Clone, Copy, PartialEq, Eq, PartialOrd, Ord)]
 pub struct Front {
     pub ticket: Reverse<u64>,
@@ -26,8 +26,11 @@ pub fn add_front(
     log: usize,
     place: usize,
 ) -> Result<(), NoMemory>
-    ensures added { OnOk result (IsPermutation (front_of log place (slice_get entries.now place) ++ heap_items fronts.old) (heap_items fronts.new)) }
-    ensures heap { OnOk result (IsHeap front_cmp (heap_items fronts.old) → IsHeap front_cmp (heap_items fronts.new)) }
+    ensures added { OnOk result
+        (IsPermutation (front_of log place (slice_get entries.now place) ++ heap_items fronts.old)
+        (heap_items fronts.new)) }
+    ensures heap { OnOk result (IsHeap front_cmp (heap_items fronts.old) →
+        IsHeap front_cmp (heap_items fronts.new)) }
 {
     if let Some(entry) = entries.get(place) {
         fronts.push(Front {
@@ -50,8 +53,10 @@ fn ticket(entry: Entry) -> u64
 
 /// The first entry of each log.
 pub fn first_fronts(alloc: Global, logs: &[&[Entry]]) -> Result<BinaryHeap<Front>, NoMemory>
-    ensures fronts { IfOk result (λ fronts. All (IsFrontOf (map (λ log. log.now) logs.now)) (heap_items fronts)) }
-    ensures left { IfOk result (λ fronts. AreLeft (map (λ log. log.now) logs.now) [] (heap_items fronts)) }
+    ensures fronts { IfOk result (λ fronts.
+        All (IsFrontOf (map (λ log. log.now) logs.now)) (heap_items fronts)) }
+    ensures left { IfOk result (λ fronts.
+        AreLeft (map (λ log. log.now) logs.now) [] (heap_items fronts)) }
     ensures heap { IfOk result (λ fronts. IsHeap front_cmp (heap_items fronts)) }
 {
     let mut fronts = BinaryHeap::with_capacity(alloc, logs.len())?;

@@ -6,12 +6,15 @@ ghost use Rattle.cluster_laws.specs.merged_logs.Merges.{AreUpdatesFrom, IsByMach
 
 /// There is one order by ticket of entries with different tickets, and that is their merge.
 pub fn merges_are_one()
-    ensures { (entries merged order : List Entry) → IsMerge entries merged → IsPermutation entries order → RiseByTicket order → merged ≡ order }
+    ensures { (entries merged order : List Entry) → IsMerge entries merged →
+        IsPermutation entries order → RiseByTicket order → merged ≡ order }
 {}
 
 /// The logs of all machines are merged to the order whose parts they are.
 pub fn logs_merge_to_their_order()
-    ensures order { (machines : ℕ) (order merged : List Entry) → RiseByTicket order → AllByRecursion (IsByMachineBelow machines) order →
+    ensures order { (machines : ℕ) (order merged : List Entry) → RiseByTicket order →
+        AllByRecursion (IsByMachineBelow machines) order →
         IsMerge (all_logged (logs_of machines order)) merged → merged ≡ order }
-    ensures updates { (next : ℕ) (order : List Entry) → AreUpdatesFrom next order → RiseByTicket order }
+    ensures updates { (next : ℕ) (order : List Entry) →
+        AreUpdatesFrom next order → RiseByTicket order }
 {}

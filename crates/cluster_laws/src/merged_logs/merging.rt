@@ -10,11 +10,12 @@ use gl_base::{Entry, NoMemory};
 use std::alloc::Global;
 use std::collections::BinaryHeap;
 
-/// The entries of all logs in one order by ticket, where each log is by ticket. The time is linear in the entries, times the
-/// logarithm of how many logs there are.
+/// The entries of all logs in one order by ticket, where each log is by ticket. The time is linear
+/// in the entries, times the logarithm of how many logs there are.
 pub fn merge(alloc: Global, logs: &[&[Entry]]) -> Result<Vec<Entry>, NoMemory>
     requires { All (λ log. IsByTicket log.now) logs.now }
-    ensures { IfOk result (λ order. IsMerge (all_logged (map (λ log. log.now) logs.now)) order.items) }
+    ensures { IfOk result (λ order.
+        IsMerge (all_logged (map (λ log. log.now) logs.now)) order.items) }
 {
     let mut fronts = first_fronts(alloc, logs)?;
     let mut order = Vec::with_capacity(alloc, count_in(logs))?;
@@ -24,7 +25,8 @@ pub fn merge(alloc: Global, logs: &[&[Entry]]) -> Result<Vec<Entry>, NoMemory>
     Ok(order)
 }
 
-/// Adds the entry at the front of a log to the order, and the next front of the log where there is one.
+/// Adds the entry at the front of a log to the order, and the next front of the log where there is
+/// one.
 fn merge_one(
     front: Front,
     entries: &[Entry],
@@ -32,9 +34,15 @@ fn merge_one(
     order: &mut Vec<Entry>,
 ) -> Result<(), NoMemory>
     requires { front.place < length entries.now }
-    ensures entry { (d : Entry) → OnOk result (order.new.items ≡ order.old.items ++ slice_index_or entries.now front.place d ∷ []) }
-    ensures added { OnOk result (IsPermutation (front_of front.log (front.place + 1) (slice_get entries.now (front.place + 1)) ++ heap_items fronts.old) (heap_items fronts.new)) }
-    ensures heap { OnOk result (IsHeap front_cmp (heap_items fronts.old) → IsHeap front_cmp (heap_items fronts.new)) }
+    ensures entry { (d : Entry) →
+        OnOk result (order.new.items ≡ order.old.items ++ slice_index_or
+        entries.now front.place d ∷ []) }
+    ensures added { OnOk result
+        (IsPermutation (front_of front.log (front.place + 1)
+        (slice_get entries.now (front.place + 1)) ++ heap_items fronts.old)
+        (heap_items fronts.new)) }
+    ensures heap { OnOk result (IsHeap front_cmp (heap_items fronts.old) →
+        IsHeap front_cmp (heap_items fronts.new)) }
 {
     order.push(entries[front.place])?;
     add_front(fronts, entries, front.log, front.place + 1)

@@ -23,8 +23,9 @@ use gl_base::{Entry, MachineNo, NoMemory, Record, Refused, ScopeId, Vertex};
 use std::alloc::Global;
 use std::marker::Model;
 
-/// A cluster of machines that take snapshots, with locks or by colours, and its coordinator. Contracts see its parts. Whatever happens in
-/// it, each acknowledged snapshot is a consistent cut, machines fail and all go back among it.
+/// A cluster of machines that take snapshots, with locks or by colours, and its coordinator.
+/// Contracts see its parts. Whatever happens in it, each acknowledged snapshot is a consistent cut,
+/// machines fail and all go back among it.
 #[derive(Drop)]
 pub struct SnapCluster<M: SavingMachine> {
     parts: Parts<M>,
@@ -41,7 +42,8 @@ impl<M: SavingMachine> Model for SnapCluster<M> {
 }
 
 impl<M: SavingMachine> SnapCluster<M> {
-    /// A cluster of machines that begin an attempt, each at its place, with this engine and this store. The first update gets the ticket
+    /// A cluster of machines that begin an attempt, each at its place, with this engine and this
+    /// store. The first update gets the ticket
     /// `next`, and there are `left` of them. Of the base only what the machines have of it is asked: it may be one that another hand made.
     pub fn new(
         alloc: Global,
@@ -51,14 +53,19 @@ impl<M: SavingMachine> SnapCluster<M> {
         next: u64,
         left: u64,
     ) -> Result<SnapCluster<M>, NoMemory>
-        requires start { (st : Setting) × (base : BaseView) × (before : Cluster) × StartsSaving M.stands machines.items engine (store_view store) next left st base before }
+        requires start { (st : Setting) × (base : BaseView) × (before : Cluster) ×
+            StartsSaving M.stands machines.items engine (store_view store)
+            next left st base before }
         requires many { length machines.items < 65535 }
         requires few { next + left < 2 ^ 64 }
         requires newest { store.newest + 1 < 2 ^ 32 }
         requires length { store.length < 2 ^ 32 }
         // It is what the law begins with, whatever was before.
-        ensures began { IfOk result (λ c. (st : Setting) (base : BaseView) (before : Cluster) → StartsSaving M.stands machines.items engine (store_view store) next left st base before →
-            IsSavingClusterOf M.stands (going_on st base.numbers base.number) c (recovers st base before)) }
+        ensures began { IfOk result (λ c. (st : Setting) (base : BaseView) (before : Cluster) →
+            StartsSaving M.stands machines.items engine (store_view store)
+            next left st base before →
+            IsSavingClusterOf M.stands (going_on st base.numbers base.number) c
+            (recovers st base before)) }
     {
         let parts = first_parts(alloc, machines, engine, store, next, left)?;
         Ok(SnapCluster { parts })
@@ -77,14 +84,17 @@ impl<M: SavingMachine> SnapCluster<M> {
         self.parts.make(event)
     }
 
-    /// A vertex of the machine is updated at once, where the one that the machine looks at may be now: a scope of it is admitted, each of
-    /// its locks is granted in turn, and its update is made, all on this machine. Of the vertices that may be admitted the machine
-    /// looks at one of its choice. Where scopes take no locks none is.
+    /// A vertex of the machine is updated at once, where the one that the machine looks at may be
+    /// now: a scope of it is admitted, each of its locks is granted in turn, and its update is
+    /// made, all on this machine. Of the vertices that may be admitted the machine looks at one of
+    /// its choice. Where scopes take no locks none is.
     pub fn update_at_once(&mut self, at: MachineNo) -> Result<Vertex, Refused>
         requires { at.0 < length self.old.machines.items }
         ensures made { IfOk result (λ v. TakesPlaceAtOnce M.stands self.old at.0 v.0 self.new) }
-        ensures not_now { IsErrOf result Refused.NotNow → CanNotTakePlaceAtOnce M.stands self.old at }
-        ensures no_memory { IsErrOf result Refused.NoMemory → CanTakePlaceAtOnce M.stands self.old at.0 }
+        ensures not_now { IsErrOf result Refused.NotNow →
+            CanNotTakePlaceAtOnce M.stands self.old at }
+        ensures no_memory { IsErrOf result Refused.NoMemory →
+            CanTakePlaceAtOnce M.stands self.old at.0 }
         ensures unchanged { OnErr result (StandsForSameSaving M.stands self.old self.new) }
         ensures machines { length self.new.machines.items ≡ length self.old.machines.items }
         ensures stopped { self.new.stopped ≡ self.old.stopped }
@@ -92,9 +102,11 @@ impl<M: SavingMachine> SnapCluster<M> {
         self.parts.update_at_once(at)
     }
 
-    /// All machines go back to a base: the cluster goes on with these machines, which begin an attempt from it, and with nothing on its way.
-    /// Its engine is the same, and tickets go on. Of the base only what the machines have of it is asked: it may be one that another hand made. Where the law's Recover
-    /// may occur, and these machines are what that makes of the machines, the cluster goes on as the law says.
+    /// All machines go back to a base: the cluster goes on with these machines, which begin an
+    /// attempt from it, and with nothing on its way. Its engine is the same, and tickets go on. Of
+    /// the base only what the machines have of it is asked: it may be one that another hand made.
+    /// Where the law's Recover may occur, and these machines are what that makes of the machines,
+    /// the cluster goes on as the law says.
     pub fn recover(
         &mut self,
         alloc: Global,
@@ -102,12 +114,16 @@ impl<M: SavingMachine> SnapCluster<M> {
         engine: Engine,
         store: Store,
     ) -> Result<(), NoMemory>
-        requires again { (st : Setting) × (base : BaseView) × (before : Cluster) × StartsSaving M.stands machines.items engine (store_view store) self.old.next self.old.left st base before }
+        requires again { (st : Setting) × (base : BaseView) × (before : Cluster) ×
+            StartsSaving M.stands machines.items engine (store_view store) self.old.next
+            self.old.left st base before }
         requires many { length machines.items ≡ length self.old.machines.items }
         requires newest { store.newest + 1 < 2 ^ 32 }
         requires length { store.length < 2 ^ 32 }
-        ensures recovered { OnOk result ((st : Setting) (c : Cluster) (base : BaseView) → GoesOnWith M.stands self.old machines.items engine (store_view store) st c base →
-            IsSavingClusterOf M.stands (going_on st base.numbers base.number) self.new (recovers st base c)) }
+        ensures recovered { OnOk result ((st : Setting) (c : Cluster) (base : BaseView) →
+            GoesOnWith M.stands self.old machines.items engine (store_view store) st c base →
+            IsSavingClusterOf M.stands (going_on st base.numbers base.number)
+            self.new (recovers st base c)) }
         ensures unchanged { OnErr result (self.new ≡ self.old) }
         ensures machines { length self.new.machines.items ≡ length self.old.machines.items }
         ensures runs { OnOk result (self.new.stopped ≡ false) }
@@ -124,13 +140,17 @@ impl<M: SavingMachine> SnapCluster<M> {
         Ok(())
     }
 
-    /// The record of the snapshot under way, for a store. It acknowledges nothing: `acknowledge` does, for which there is room from then on.
+    /// The record of the snapshot under way, for a store. It acknowledges nothing: `acknowledge`
+    /// does, for which there is room from then on.
     /// `NotNow` comes exactly where the event of `Lead::Record` may not happen. What the record has is a consistent cut.
     pub fn record(&mut self, alloc: Global) -> Result<Record, Refused>
-        ensures cut { IfOk result (λ made. InEachCluster M.stands self.old (λ st c. RecordsCut st c made)) }
+        ensures cut { IfOk result (λ made.
+            InEachCluster M.stands self.old (λ st c. RecordsCut st c made)) }
         ensures due { OnOk result (CanTakePlace M.stands self.old (Event.Lead Lead.Record)) }
-        ensures not_now { IsErrOf result Refused.NotNow → CanNotTakePlace M.stands self.old (Event.Lead Lead.Record) }
-        ensures no_memory { IsErrOf result Refused.NoMemory → CanTakePlace M.stands self.old (Event.Lead Lead.Record) }
+        ensures not_now { IsErrOf result Refused.NotNow →
+            CanNotTakePlace M.stands self.old (Event.Lead Lead.Record) }
+        ensures no_memory { IsErrOf result Refused.NoMemory →
+            CanTakePlace M.stands self.old (Event.Lead Lead.Record) }
         ensures same { StandsForSameSaving M.stands self.old self.new }
         ensures machines { length self.new.machines.items ≡ length self.old.machines.items }
         ensures stopped { self.new.stopped ≡ self.old.stopped }
@@ -139,7 +159,8 @@ impl<M: SavingMachine> SnapCluster<M> {
         self.parts.record(alloc)
     }
 
-    /// The snapshot of this number, whose record was made, is acknowledged: the event of `Lead::Record` happens. It takes no memory.
+    /// The snapshot of this number, whose record was made, is acknowledged: the event of
+    /// `Lead::Record` happens. It takes no memory.
     pub fn acknowledge(&mut self, number: u32)
         requires { IsReadyToAcknowledge self.old number }
         ensures made { TakesPlace M.stands self.old (Event.Lead Lead.Record) self.new }
@@ -149,18 +170,22 @@ impl<M: SavingMachine> SnapCluster<M> {
         self.parts.recorded(number);
     }
 
-    /// How many snapshots are stored: the number of the newest acknowledged one. Each that was acknowledged in this attempt is a
-    /// consistent cut: its numbers are the replay of a valid order on the undivided graph.
+    /// How many snapshots are stored: the number of the newest acknowledged one. Each that was
+    /// acknowledged in this attempt is a consistent cut: its numbers are the replay of a valid
+    /// order on the undivided graph.
     pub fn stored(&self) -> u32
-        ensures number { InEachCluster M.stands self.now (λ st c. result ≡ c.coordinator.acknowledged) }
-        ensures cuts { InEachCluster M.stands self.now (λ st c. AllByRecursion (IsSnapshotCut st c) c.coordinator.snapshots) }
+        ensures number { InEachCluster M.stands self.now (λ st c.
+            result ≡ c.coordinator.acknowledged) }
+        ensures cuts { InEachCluster M.stands self.now (λ st c.
+            AllByRecursion (IsSnapshotCut st c) c.coordinator.snapshots) }
         // Some cluster of the law is this one, so that what is said of all of them says something.
         ensures cluster { StandsForSaving M.stands self.now }
     {
         self.parts.coordinator.stored()
     }
 
-    /// What is due: a record, the next snapshot, the end, a step, or a wave. Where it is the end, the order of the updates leaves no task.
+    /// What is due: a record, the next snapshot, the end, a step, or a wave. Where it is the end,
+    /// the order of the updates leaves no task.
     pub fn due(&self) -> Due
         ensures due { IsDueOf self.now.coordinator result }
         ensures ended { result ≡ Due.Ended → InEachCluster M.stands self.now HasFinishedOrder }
@@ -170,7 +195,8 @@ impl<M: SavingMachine> SnapCluster<M> {
 
     /// Whether the waves have shown the coordinator that nothing is left to do.
     pub fn has_seen_the_end(&self) -> bool
-        ensures { IsTrue result → InEachCluster M.stands self.now (λ st c. HasSeenTheEnd c.coordinator) }
+        ensures { IsTrue result →
+            InEachCluster M.stands self.now (λ st c. HasSeenTheEnd c.coordinator) }
     {
         self.parts.coordinator.has_seen_the_end()
     }
@@ -208,17 +234,19 @@ impl<M: SavingMachine> SnapCluster<M> {
     pub fn machine(&self, m: MachineNo) -> &M
         requires { m.0 < length self.now.machines.items }
         ensures stands { slice_get self.now.machines.items m.0 ≡ Some result.now }
-        ensures is { InEachCluster M.stands self.now (λ st c. M.stands st m.0 (c.machine m.0) result.now) }
+        ensures is { InEachCluster M.stands self.now (λ st c.
+            M.stands st m.0 (c.machine m.0) result.now) }
         ensures cluster { StandsForSaving M.stands self.now }
     {
         &self.parts.machines[m.0 as usize]
     }
 
-    /// The updates that a machine made in this attempt. All machines' are one order, whose replay on the undivided graph gives the numbers
-    /// that the owners of the vertices have.
+    /// The updates that a machine made in this attempt. All machines' are one order, whose replay
+    /// on the undivided graph gives the numbers that the owners of the vertices have.
     pub fn log(&self, m: MachineNo) -> &[Entry]
         requires { m.0 < length self.now.machines.items }
-        ensures log { InEachCluster M.stands self.now (λ st c. result.now ≡ (c.machine m.0).part.log) }
+        ensures log { InEachCluster M.stands self.now (λ st c.
+            result.now ≡ (c.machine m.0).part.log) }
         ensures order { InEachCluster M.stands self.now HasOneOrder }
     {
         self.parts.machines[m.0 as usize].log()
@@ -242,8 +270,10 @@ impl<M: SavingMachine> SnapCluster<M> {
     /// A lock that may be granted at the machine; `None` exactly where none may be.
     pub fn next_grant(&mut self, at: MachineNo) -> Option<Vertex>
         requires { at.0 < length self.old.machines.items }
-        ensures some { IfSome result (λ x. CanTakePlace M.stands self.old (Event.Local (Local.Grant at x))) }
-        ensures none { IfNone result ((x : Vertex) → CanNotTakePlace M.stands self.old (Event.Local (Local.Grant at x))) }
+        ensures some { IfSome result (λ x.
+            CanTakePlace M.stands self.old (Event.Local (Local.Grant at x))) }
+        ensures none { IfNone result ((x : Vertex) →
+            CanNotTakePlace M.stands self.old (Event.Local (Local.Grant at x))) }
         ensures same { StandsForSameSaving M.stands self.old self.new }
         ensures machines { length self.new.machines.items ≡ length self.old.machines.items }
         ensures stopped { self.new.stopped ≡ self.old.stopped }
@@ -255,18 +285,23 @@ impl<M: SavingMachine> SnapCluster<M> {
     pub fn next_update(&self, at: MachineNo) -> Option<ScopeId>
         requires { at.0 < length self.now.machines.items }
         ensures home { IfSome result (λ s. s.home ≡ at) }
-        ensures some { IfSome result (λ s. CanTakePlace M.stands self.now (Event.Local (Local.Update s))) }
-        ensures none { IfNone result ((s : ScopeId) → s.home ≡ at → CanNotTakePlace M.stands self.now (Event.Local (Local.Update s))) }
+        ensures some { IfSome result (λ s.
+            CanTakePlace M.stands self.now (Event.Local (Local.Update s))) }
+        ensures none { IfNone result ((s : ScopeId) → s.home ≡ at →
+            CanNotTakePlace M.stands self.now (Event.Local (Local.Update s))) }
     {
         self.parts.next_update(at)
     }
 
-    /// A scope of the machine whose snapshot update may be made; `None` exactly where there is none.
+    /// A scope of the machine whose snapshot update may be made; `None` exactly where there is
+    /// none.
     pub fn next_mark(&self, at: MachineNo) -> Option<ScopeId>
         requires { at.0 < length self.now.machines.items }
         ensures home { IfSome result (λ s. s.home ≡ at) }
-        ensures some { IfSome result (λ s. CanTakePlace M.stands self.now (Event.Local (Local.Mark s))) }
-        ensures none { IfNone result ((s : ScopeId) → s.home ≡ at → CanNotTakePlace M.stands self.now (Event.Local (Local.Mark s))) }
+        ensures some { IfSome result (λ s.
+            CanTakePlace M.stands self.now (Event.Local (Local.Mark s))) }
+        ensures none { IfNone result ((s : ScopeId) → s.home ≡ at →
+            CanNotTakePlace M.stands self.now (Event.Local (Local.Mark s))) }
     {
         self.parts.next_mark(at)
     }
@@ -274,8 +309,10 @@ impl<M: SavingMachine> SnapCluster<M> {
     /// Whether the machine may put its section out now.
     pub fn has_section(&mut self, at: MachineNo) -> bool
         requires { at.0 < length self.old.machines.items }
-        ensures yes { IsTrue result → CanTakePlace M.stands self.old (Event.Local (Local.Section at)) }
-        ensures no { result ≡ false → CanNotTakePlace M.stands self.old (Event.Local (Local.Section at)) }
+        ensures yes { IsTrue result →
+            CanTakePlace M.stands self.old (Event.Local (Local.Section at)) }
+        ensures no { result ≡ false →
+            CanNotTakePlace M.stands self.old (Event.Local (Local.Section at)) }
         ensures same { StandsForSameSaving M.stands self.old self.new }
         ensures machines { length self.new.machines.items ≡ length self.old.machines.items }
     {
@@ -286,7 +323,8 @@ impl<M: SavingMachine> SnapCluster<M> {
     pub fn has_message(&self, from: MachineNo, to: MachineNo) -> bool
         requires from { from.0 < length self.now.machines.items }
         requires to { to.0 < length self.now.machines.items }
-        ensures { InEachCluster M.stands self.now (λ st c. IsTrue result ↔ HasFirst (c.link from.0 to.0)) }
+        ensures { InEachCluster M.stands self.now (λ st c. IsTrue result ↔
+            HasFirst (c.link from.0 to.0)) }
     {
         self.parts.links.has_message(from, to)
     }
@@ -302,7 +340,8 @@ impl<M: SavingMachine> SnapCluster<M> {
     /// Whether word of the machine is on the link to the coordinator.
     pub fn has_report(&self, from: MachineNo) -> bool
         requires { from.0 < length self.now.machines.items }
-        ensures { InEachCluster M.stands self.now (λ st c. IsTrue result ↔ HasNext (c.reports from.0)) }
+        ensures { InEachCluster M.stands self.now (λ st c. IsTrue result ↔
+            HasNext (c.reports from.0)) }
     {
         self.parts.links.has_message(from, self.parts.lead())
     }
@@ -310,12 +349,14 @@ impl<M: SavingMachine> SnapCluster<M> {
     /// Whether word waits at the coordinator for the machine.
     pub fn call_waits(&self, to: MachineNo) -> bool
         requires { to.0 < length self.now.machines.items }
-        ensures { InEachCluster M.stands self.now (λ st c. IsTrue result ↔ HasNext (c.coordinator.out to.0)) }
+        ensures { InEachCluster M.stands self.now (λ st c. IsTrue result ↔
+            HasNext (c.coordinator.out to.0)) }
     {
         self.parts.coordinator.waits(to)
     }
 
-    /// Whether word is on its way between the coordinator and the machine: it waits at one of them, or is on a link.
+    /// Whether word is on its way between the coordinator and the machine: it waits at one of them,
+    /// or is on a link.
     pub fn has_word(&self, at: MachineNo) -> bool
         requires { at.0 < length self.now.machines.items }
         ensures { InEachCluster M.stands self.now (λ st c. (result ≡ false) ↔ HasNoWordAt c at.0) }

@@ -21,7 +21,10 @@ impl Model for Link {
 
     ghost Value = { LinkView };
 
-    ghost view = { λ l. record { messages = map message_view l.queue.items; room = l.queue.cap - length l.queue.items } };
+    ghost view = { λ l. record {
+      messages = map message_view l.queue.items;
+      room = l.queue.cap - length l.queue.items;
+    } };
 }
 
 impl Link {

@@ -11,7 +11,8 @@ use std::alloc::Global;
 use std::marker::Model;
 use wire::wire_msgs::Message;
 
-/// A link from each machine to each one. Contracts see, for each machine, the list of the links from it.
+/// A link from each machine to each one. Contracts see, for each machine, the list of the links
+/// from it.
 #[derive(Drop)]
 pub struct Links {
     rows: Vec<Vec<Link>>,
@@ -30,7 +31,8 @@ impl Links {
     /// Links between so many machines, with nothing on them.
     pub fn new(alloc: Global, machines: usize) -> Result<Links, NoMemory>
         ensures rows { IfOk result (λ l. length l ≡ machines) }
-        ensures columns { IfOk result (λ l. (p : ℕ) → p < machines → length (slice_index_or l p []) ≡ machines) }
+        ensures columns { IfOk result (λ l. (p : ℕ) → p < machines →
+            length (slice_index_or l p []) ≡ machines) }
         ensures none { IfOk result (λ l. (p q : ℕ) → (link_between l p q).messages ≡ []) }
     {
         let mut rows = Vec::with_capacity(alloc, machines)?;
@@ -52,8 +54,10 @@ impl Links {
     pub fn reserve(&mut self, from: MachineNo, to: MachineNo) -> Result<(), NoMemory>
         requires { HasLinkBetween self.old from.0 to.0 }
         ensures room { OnOk result (0 < (link_between self.new from.0 to.0).room) }
-        ensures same { (link_between self.new from.0 to.0).messages ≡ (link_between self.old from.0 to.0).messages }
-        ensures rest { self.new ≡ with_link_between self.old from.0 to.0 (link_between self.new from.0 to.0) }
+        ensures same { (link_between self.new from.0 to.0).messages ≡
+            (link_between self.old from.0 to.0).messages }
+        ensures rest { self.new ≡ with_link_between self.old from.0 to.0
+            (link_between self.new from.0 to.0) }
     {
         self.rows[from.0 as usize][to.0 as usize].reserve()
     }
@@ -62,8 +66,10 @@ impl Links {
     pub fn push(&mut self, from: MachineNo, to: MachineNo, message: Message)
         requires link { HasLinkBetween self.old from.0 to.0 }
         requires room { 0 < (link_between self.old from.0 to.0).room }
-        ensures last { (link_between self.new from.0 to.0).messages ≡ (link_between self.old from.0 to.0).messages ++ message_view message ∷ [] }
-        ensures rest { self.new ≡ with_link_between self.old from.0 to.0 (link_between self.new from.0 to.0) }
+        ensures last { (link_between self.new from.0 to.0).messages ≡
+            (link_between self.old from.0 to.0).messages ++ message_view message ∷ [] }
+        ensures rest { self.new ≡ with_link_between self.old from.0 to.0
+            (link_between self.new from.0 to.0) }
     {
         self.rows[from.0 as usize][to.0 as usize].push(message);
     }
@@ -71,10 +77,13 @@ impl Links {
     /// Takes the first message off the link. Its room is kept.
     pub fn take(&mut self, from: MachineNo, to: MachineNo) -> Option<Message>
         requires { HasLinkBetween self.old from.0 to.0 }
-        ensures first { option_map message_view result ≡ slice_get (link_between self.old from.0 to.0).messages 0 }
-        ensures behind { (link_between self.new from.0 to.0).messages ≡ behind_first (link_between self.old from.0 to.0).messages }
+        ensures first { option_map message_view result ≡ slice_get
+            (link_between self.old from.0 to.0).messages 0 }
+        ensures behind { (link_between self.new from.0 to.0).messages ≡ behind_first
+            (link_between self.old from.0 to.0).messages }
         ensures room { OnSome result (0 < (link_between self.new from.0 to.0).room) }
-        ensures rest { self.new ≡ with_link_between self.old from.0 to.0 (link_between self.new from.0 to.0) }
+        ensures rest { self.new ≡ with_link_between self.old from.0 to.0
+            (link_between self.new from.0 to.0) }
     {
         self.rows[from.0 as usize][to.0 as usize].take()
     }
@@ -83,8 +92,10 @@ impl Links {
     pub fn put_back(&mut self, from: MachineNo, to: MachineNo, message: Message)
         requires link { HasLinkBetween self.old from.0 to.0 }
         requires room { 0 < (link_between self.old from.0 to.0).room }
-        ensures first { (link_between self.new from.0 to.0).messages ≡ message_view message ∷ (link_between self.old from.0 to.0).messages }
-        ensures rest { self.new ≡ with_link_between self.old from.0 to.0 (link_between self.new from.0 to.0) }
+        ensures first { (link_between self.new from.0 to.0).messages ≡ message_view
+            message ∷ (link_between self.old from.0 to.0).messages }
+        ensures rest { self.new ≡ with_link_between self.old from.0 to.0
+            (link_between self.new from.0 to.0) }
     {
         self.rows[from.0 as usize][to.0 as usize].put_back(message);
     }

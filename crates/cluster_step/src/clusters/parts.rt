@@ -17,8 +17,9 @@ use gl_base::{MachineNo, NoMemory, Record, Refused, ScopeId, Vertex};
 use std::alloc::Global;
 use wire::wire_msgs::Returned;
 
-/// A cluster's machines, which of them have failed, the links between them and behind those the ones from the coordinator and to it, the
-/// coordinator, the next ticket, how many tickets are left, and whether the run has ended.
+/// A cluster's machines, which of them have failed, the links between them and behind those the
+/// ones from the coordinator and to it, the coordinator, the next ticket, how many tickets are
+/// left, and whether the run has ended.
 #[derive(Drop)]
 pub struct Parts<M> {
     pub machines: Vec<M>,
@@ -67,12 +68,16 @@ impl<M: SavingMachine> Parts<M> {
         }
     }
 
-    /// The record of the snapshot under way, where it may be acknowledged now, with room for the word of that.
+    /// The record of the snapshot under way, where it may be acknowledged now, with room for the
+    /// word of that.
     pub(crate) fn record(&mut self, alloc: Global) -> Result<Record, Refused>
-        ensures cut { IfOk result (λ made. InEachCluster M.stands self.old (λ st c. RecordsCut st c made)) }
+        ensures cut { IfOk result (λ made.
+            InEachCluster M.stands self.old (λ st c. RecordsCut st c made)) }
         ensures due { OnOk result (CanTakePlace M.stands self.old (Event.Lead Lead.Record)) }
-        ensures not_now { IsErrOf result Refused.NotNow → CanNotTakePlace M.stands self.old (Event.Lead Lead.Record) }
-        ensures no_memory { IsErrOf result Refused.NoMemory → CanTakePlace M.stands self.old (Event.Lead Lead.Record) }
+        ensures not_now { IsErrOf result Refused.NotNow →
+            CanNotTakePlace M.stands self.old (Event.Lead Lead.Record) }
+        ensures no_memory { IsErrOf result Refused.NoMemory →
+            CanTakePlace M.stands self.old (Event.Lead Lead.Record) }
         ensures same { StandsForSameSaving M.stands self.old self.new }
         ensures machines { self.new.machines ≡ self.old.machines }
         ensures ready { IfOk result (λ made. IsReadyToAcknowledge self.new made.number) }
@@ -95,8 +100,10 @@ impl<M: SavingMachine> Parts<M> {
 
     /// Whether nothing happens at the machine: the run has ended, or the machine has failed.
     fn is_still(&self, at: MachineNo) -> bool
-        ensures yes { IsTrue result → (self.now.stopped ≡ true) ⊎ (slice_index_or self.now.failed.items at.0 false ≡ true) }
-        ensures no { result ≡ false → (self.now.stopped ≡ false) × (slice_index_or self.now.failed.items at.0 false ≡ false) }
+        ensures yes { IsTrue result → (self.now.stopped ≡ true) ⊎
+            (slice_index_or self.now.failed.items at.0 false ≡ true) }
+        ensures no { result ≡ false → (self.now.stopped ≡ false) ×
+            (slice_index_or self.now.failed.items at.0 false ≡ false) }
     {
         self.stopped || self.has_failed(at)
     }
@@ -104,8 +111,10 @@ impl<M: SavingMachine> Parts<M> {
     /// A lock that may be granted at the machine.
     pub(crate) fn next_grant(&mut self, at: MachineNo) -> Option<Vertex>
         requires { at.0 < length self.old.machines.items }
-        ensures some { IfSome result (λ x. CanTakePlace M.stands self.old (Event.Local (Local.Grant at x))) }
-        ensures none { IfNone result ((x : Vertex) → CanNotTakePlace M.stands self.old (Event.Local (Local.Grant at x))) }
+        ensures some { IfSome result (λ x.
+            CanTakePlace M.stands self.old (Event.Local (Local.Grant at x))) }
+        ensures none { IfNone result ((x : Vertex) →
+            CanNotTakePlace M.stands self.old (Event.Local (Local.Grant at x))) }
         ensures same { StandsForSameSaving M.stands self.old self.new }
         ensures machines { length self.new.machines.items ≡ length self.old.machines.items }
     {
@@ -120,8 +129,10 @@ impl<M: SavingMachine> Parts<M> {
         requires within { at.0 < length self.now.machines.items }
         requires cluster { StandsForSaving M.stands self.now }
         ensures home { IfSome result (λ s. s.home ≡ at) }
-        ensures some { IfSome result (λ s. CanTakePlace M.stands self.now (Event.Local (Local.Update s))) }
-        ensures none { IfNone result ((s : ScopeId) → s.home ≡ at → CanNotTakePlace M.stands self.now (Event.Local (Local.Update s))) }
+        ensures some { IfSome result (λ s.
+            CanTakePlace M.stands self.now (Event.Local (Local.Update s))) }
+        ensures none { IfNone result ((s : ScopeId) → s.home ≡ at →
+            CanNotTakePlace M.stands self.now (Event.Local (Local.Update s))) }
     {
         if self.is_still(at) || self.left == 0 {
             return None;
@@ -134,8 +145,10 @@ impl<M: SavingMachine> Parts<M> {
         requires within { at.0 < length self.now.machines.items }
         requires cluster { StandsForSaving M.stands self.now }
         ensures home { IfSome result (λ s. s.home ≡ at) }
-        ensures some { IfSome result (λ s. CanTakePlace M.stands self.now (Event.Local (Local.Mark s))) }
-        ensures none { IfNone result ((s : ScopeId) → s.home ≡ at → CanNotTakePlace M.stands self.now (Event.Local (Local.Mark s))) }
+        ensures some { IfSome result (λ s.
+            CanTakePlace M.stands self.now (Event.Local (Local.Mark s))) }
+        ensures none { IfNone result ((s : ScopeId) → s.home ≡ at →
+            CanNotTakePlace M.stands self.now (Event.Local (Local.Mark s))) }
     {
         if self.is_still(at) {
             return None;
@@ -146,8 +159,10 @@ impl<M: SavingMachine> Parts<M> {
     /// Whether the machine may put its section out now.
     pub(crate) fn has_section(&mut self, at: MachineNo) -> bool
         requires { at.0 < length self.old.machines.items }
-        ensures yes { IsTrue result → CanTakePlace M.stands self.old (Event.Local (Local.Section at)) }
-        ensures no { result ≡ false → CanNotTakePlace M.stands self.old (Event.Local (Local.Section at)) }
+        ensures yes { IsTrue result →
+            CanTakePlace M.stands self.old (Event.Local (Local.Section at)) }
+        ensures no { result ≡ false →
+            CanNotTakePlace M.stands self.old (Event.Local (Local.Section at)) }
         ensures same { StandsForSameSaving M.stands self.old self.new }
         ensures machines { length self.new.machines.items ≡ length self.old.machines.items }
     {
@@ -267,7 +282,8 @@ impl<M: SavingMachine> Parts<M> {
         requires runs { self.old.stopped ≡ false }
         requires awake { slice_index_or self.old.failed.items scope.home.0 false ≡ false }
         requires few { self.old.next + self.old.left < 2 ^ 64 }
-        ensures { AnswersEvent M.stands self.old (Event.Local (Local.Update scope)) result self.new }
+        ensures { AnswersEvent M.stands self.old
+            (Event.Local (Local.Update scope)) result self.new }
     {
         if self.left == 0 {
             return Err(Refused::NotNow);
@@ -281,7 +297,8 @@ impl<M: SavingMachine> Parts<M> {
         }
     }
 
-    /// A vertex of the machine is updated at once, under the next ticket, where the one that the machine looks at may be now.
+    /// A vertex of the machine is updated at once, under the next ticket, where the one that the
+    /// machine looks at may be now.
     pub(crate) fn update_at_once(&mut self, at: MachineNo) -> Result<Vertex, Refused>
         requires within { at.0 < length self.old.machines.items }
         requires some { StandsForSaving M.stands self.old }
@@ -305,7 +322,10 @@ impl<M: SavingMachine> Parts<M> {
     fn draw(&mut self)
         requires some { 0 < self.old.left }
         requires few { self.old.next + self.old.left < 2 ^ 64 }
-        ensures { self.new ≡ record self.old { next = self.old.next + 1; left = self.old.left - 1 } }
+        ensures { self.new ≡ record self.old {
+          next = self.old.next + 1;
+          left = self.old.left - 1;
+        } }
     {
         self.next += 1;
         self.left -= 1;
@@ -313,11 +333,13 @@ impl<M: SavingMachine> Parts<M> {
 
     /// The first message that waits at the one machine for the other goes onto the link.
     fn send(&mut self, from: MachineNo, to: MachineNo) -> Result<(), Refused>
-        requires within { (from.0 < length self.old.machines.items) × (to.0 < length self.old.machines.items) }
+        requires within { (from.0 < length self.old.machines.items) ×
+            (to.0 < length self.old.machines.items) }
         requires runs { self.old.stopped ≡ false }
         requires awake { slice_index_or self.old.failed.items from.0 false ≡ false }
         requires links { HasLinkBetween self.old.links from.0 to.0 }
-        ensures { AnswersEvent M.stands self.old (Event.Passage (Passage.Send from to)) result self.new }
+        ensures { AnswersEvent M.stands self.old
+            (Event.Passage (Passage.Send from to)) result self.new }
     {
         let machine = &mut self.machines[from.0 as usize];
         if !machine.waits(to) {
@@ -335,12 +357,14 @@ impl<M: SavingMachine> Parts<M> {
 
     /// The first message on the link from the one machine to the other is received.
     fn deliver(&mut self, from: MachineNo, to: MachineNo) -> Result<(), Refused>
-        requires within { (from.0 < length self.old.machines.items) × (to.0 < length self.old.machines.items) }
+        requires within { (from.0 < length self.old.machines.items) ×
+            (to.0 < length self.old.machines.items) }
         requires runs { self.old.stopped ≡ false }
         requires awake { slice_index_or self.old.failed.items to.0 false ≡ false }
         requires some { StandsForSaving M.stands self.old }
         requires links { HasLinkBetween self.old.links from.0 to.0 }
-        ensures { AnswersEvent M.stands self.old (Event.Passage (Passage.Deliver from to)) result self.new }
+        ensures { AnswersEvent M.stands self.old
+            (Event.Passage (Passage.Deliver from to)) result self.new }
     {
         let Some(message) = self.links.take(from, to) else {
             return Err(Refused::NotNow);
@@ -414,7 +438,8 @@ impl<M: SavingMachine> Parts<M> {
         requires runs { self.old.stopped ≡ false }
         requires many { length self.old.machines.items < 65535 }
         requires links { HasLinkBetween self.old.links (length self.old.machines.items) to.0 }
-        ensures { AnswersEvent M.stands self.old (Event.Passage (Passage.SendCall to)) result self.new }
+        ensures { AnswersEvent M.stands self.old
+            (Event.Passage (Passage.SendCall to)) result self.new }
     {
         if !self.coordinator.waits(to) {
             return Err(Refused::NotNow);
@@ -438,7 +463,8 @@ impl<M: SavingMachine> Parts<M> {
         requires some { StandsForSaving M.stands self.old }
         requires many { length self.old.machines.items < 65535 }
         requires links { HasLinkBetween self.old.links (length self.old.machines.items) to.0 }
-        ensures { AnswersEvent M.stands self.old (Event.Passage (Passage.DeliverCall to)) result self.new }
+        ensures { AnswersEvent M.stands self.old
+            (Event.Passage (Passage.DeliverCall to)) result self.new }
     {
         let lead = self.lead();
         let Some(message) = self.links.take(lead, to) else {
@@ -460,7 +486,8 @@ impl<M: SavingMachine> Parts<M> {
         requires awake { slice_index_or self.old.failed.items from.0 false ≡ false }
         requires many { length self.old.machines.items < 65535 }
         requires links { HasLinkBetween self.old.links from.0 (length self.old.machines.items) }
-        ensures { AnswersEvent M.stands self.old (Event.Passage (Passage.SendReport from)) result self.new }
+        ensures { AnswersEvent M.stands self.old
+            (Event.Passage (Passage.SendReport from)) result self.new }
     {
         let lead = self.lead();
         let machine = &mut self.machines[from.0 as usize];
@@ -484,7 +511,8 @@ impl<M: SavingMachine> Parts<M> {
         requires some { StandsForSaving M.stands self.old }
         requires many { length self.old.machines.items < 65535 }
         requires links { HasLinkBetween self.old.links from.0 (length self.old.machines.items) }
-        ensures { AnswersEvent M.stands self.old (Event.Passage (Passage.DeliverReport from)) result self.new }
+        ensures { AnswersEvent M.stands self.old
+            (Event.Passage (Passage.DeliverReport from)) result self.new }
     {
         let lead = self.lead();
         let Some(message) = self.links.take(from, lead) else {
@@ -495,7 +523,8 @@ impl<M: SavingMachine> Parts<M> {
     }
 }
 
-/// The parts of a cluster that begins an attempt with these machines, this engine and this store, and these tickets. Nothing is on its way.
+/// The parts of a cluster that begins an attempt with these machines, this engine and this store,
+/// and these tickets. Nothing is on its way.
 pub(crate) fn first_parts<M: SavingMachine>(
     alloc: Global,
     machines: Vec<M>,
@@ -508,8 +537,10 @@ pub(crate) fn first_parts<M: SavingMachine>(
     requires few { next + left < 2 ^ 64 }
     requires newest { store.newest + 1 < 2 ^ 32 }
     requires length { store.length < 2 ^ 32 }
-    ensures began { IfOk result (λ p. (st : Setting) (base : BaseView) (before : Cluster) → StartsSaving M.stands machines.items engine (store_view store) next left st base before →
-        IsSavingClusterOf M.stands (going_on st base.numbers base.number) p (recovers st base before)) }
+    ensures began { IfOk result (λ p. (st : Setting) (base : BaseView) (before : Cluster) →
+        StartsSaving M.stands machines.items engine (store_view store) next left st base before →
+        IsSavingClusterOf M.stands (going_on st base.numbers base.number) p
+        (recovers st base before)) }
     ensures machines { IfOk result (λ p. p.machines.items ≡ machines.items) }
 {
     let many = machines.len();

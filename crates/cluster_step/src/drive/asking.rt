@@ -9,7 +9,8 @@ use gl_base::{MAX_SNAPSHOTS, MachineNo};
 
 /// Whether a snapshot is under way while as many are stored as may be.
 pub(crate) fn is_full<M: SavingMachine>(course: &Course<M>) -> bool
-    ensures { IsTrue result → OfTheCall M.stands course.now (λ st o c call. NeedsMoreStore st c.coordinator call) }
+    ensures { IsTrue result →
+        OfTheCall M.stands course.now (λ st o c call. NeedsMoreStore st c.coordinator call) }
 {
     let coordinator = course.coordinator();
     if coordinator.stored() < MAX_SNAPSHOTS {
@@ -20,7 +21,8 @@ pub(crate) fn is_full<M: SavingMachine>(course: &Course<M>) -> bool
 
 /// Whether the store takes one snapshot more, or nobody asks for one.
 pub(crate) fn lacks_no_snapshot<M: SavingMachine>(course: &Course<M>) -> bool
-    ensures { IsTrue result → OfTheCall M.stands course.now (λ st o c call. LacksNoSnapshot st c.coordinator call) }
+    ensures { IsTrue result →
+        OfTheCall M.stands course.now (λ st o c call. LacksNoSnapshot st c.coordinator call) }
 {
     if course.coordinator().stored() < MAX_SNAPSHOTS {
         return true;
@@ -28,9 +30,11 @@ pub(crate) fn lacks_no_snapshot<M: SavingMachine>(course: &Course<M>) -> bool
     asks_for_none(course)
 }
 
-/// Whether nobody asks for a snapshot: none is under way or due, and no word is on its way between the coordinator and a machine.
+/// Whether nobody asks for a snapshot: none is under way or due, and no word is on its way between
+/// the coordinator and a machine.
 fn asks_for_none<M: SavingMachine>(course: &Course<M>) -> bool
-    ensures { IsTrue result → InEachCourse M.stands course.now (λ st o events c. 0 < half_window st → AsksForNone st c) }
+    ensures { IsTrue result →
+        InEachCourse M.stands course.now (λ st o events c. 0 < half_window st → AsksForNone st c) }
 {
     if !is_settled(course) {
         return false;
@@ -40,7 +44,8 @@ fn asks_for_none<M: SavingMachine>(course: &Course<M>) -> bool
 
 /// Whether no snapshot is under way, and none is due.
 fn is_settled<M: SavingMachine>(course: &Course<M>) -> bool
-    ensures { IsTrue result → InEachCourse M.stands course.now (λ st o events c. AwaitsNoSnapshot st c.coordinator) }
+    ensures { IsTrue result →
+        InEachCourse M.stands course.now (λ st o events c. AwaitsNoSnapshot st c.coordinator) }
 {
     match course.due() {
         Due::Snapshot(_) => false,
@@ -50,7 +55,9 @@ fn is_settled<M: SavingMachine>(course: &Course<M>) -> bool
 
 /// Whether no word is on its way between the coordinator and a machine.
 fn has_no_word<M: SavingMachine>(course: &Course<M>) -> bool
-    ensures { IsTrue result → InEachCourse M.stands course.now (λ st o events c. (a : ℕ) → a < st.machines → HasNoWordAt c a) }
+    ensures { IsTrue result →
+        InEachCourse M.stands course.now (λ st o events c. (a : ℕ) →
+        a < st.machines → HasNoWordAt c a) }
 {
     for m in 0..course.machines() {
         if course.has_word(MachineNo(m as u16)) {

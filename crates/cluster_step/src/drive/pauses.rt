@@ -19,7 +19,8 @@ pub enum Pause {
     Quiet,
     /// As many snapshots are stored as may be, and one more is under way.
     Full,
-    /// No ticket is left, and a task is; and a store that has as many snapshots as may be lacks none.
+    /// No ticket is left, and a task is; and a store that has as many snapshots as may be lacks
+    /// none.
     Spent,
 }
 
@@ -64,7 +65,8 @@ fn last_pause<M: SavingMachine>(course: &Course<M>, saves_end: bool) -> Option<P
     }
 }
 
-/// Whether no ticket is left of the budget, and a task is; and a store that has as many snapshots as may be lacks none.
+/// Whether no ticket is left of the budget, and a task is; and a store that has as many snapshots
+/// as may be lacks none.
 pub(crate) fn is_spent<M: SavingMachine>(course: &Course<M>) -> bool
     ensures spent { IsTrue result → IsSpentNow M.stands course.now }
     ensures task { IsTrue result → HasFlaggedTask M.stands course.now }
@@ -94,7 +96,8 @@ pub(crate) fn first_reached<M: SavingMachine>(course: &Course<M>) -> Option<Mach
 
 /// Whether a machine has a scope that is ready for its update, so that a task is left.
 fn has_task<M: SavingMachine>(course: &Course<M>) -> bool
-    ensures left { IsTrue result → OfTheCall M.stands course.now (λ st o c call. HasTaskLeft st call) }
+    ensures left { IsTrue result →
+        OfTheCall M.stands course.now (λ st o c call. HasTaskLeft st call) }
     ensures here { IsTrue result → HasFlaggedTask M.stands course.now }
 {
     for m in 0..course.machines() {

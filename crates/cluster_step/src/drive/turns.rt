@@ -9,9 +9,10 @@ use gl_base::{MachineNo, NoMemory};
 /// How many tasks a machine takes up in one turn.
 const TASKS_IN_A_TURN: u32 = 16;
 
-/// Each machine has its turn, and then the coordinator: a snapshot or a step begins where one is due, and where nothing else moved a wave is
-/// put out where one is due. A machine that reaches the count of a failure ends the round, so that no other machine makes an update before
-/// the failure. Says whether anything moved.
+/// Each machine has its turn, and then the coordinator: a snapshot or a step begins where one is
+/// due, and where nothing else moved a wave is put out where one is due. A machine that reaches the
+/// count of a failure ends the round, so that no other machine makes an update before the failure.
+/// Says whether anything moved.
 pub(crate) fn round<M: SavingMachine>(course: &mut Course<M>) -> Result<bool, NoMemory>
     ensures { IsSameAttempt course.old course.new }
 {
@@ -46,7 +47,8 @@ fn lead<M: SavingMachine>(course: &mut Course<M>, moved: bool) -> Result<bool, N
     }
 }
 
-/// The machine works, and what it has to send and what is sent to it is brought. Says whether anything moved.
+/// The machine works, and what it has to send and what is sent to it is brought. Says whether
+/// anything moved.
 fn turn<M: SavingMachine>(course: &mut Course<M>, at: MachineNo) -> Result<bool, NoMemory>
     requires { at.0 < length course.old.now.machines.items }
     ensures { IsSameAttempt course.old course.new }
@@ -57,8 +59,8 @@ fn turn<M: SavingMachine>(course: &mut Course<M>, at: MachineNo) -> Result<bool,
     Ok(worked || told || led)
 }
 
-/// What has come is settled; then one task after another is taken up, until the machine reaches the count of a failure. Says whether anything
-/// moved.
+/// What has come is settled; then one task after another is taken up, until the machine reaches the
+/// count of a failure. Says whether anything moved.
 fn work<M: SavingMachine>(course: &mut Course<M>, at: MachineNo) -> Result<bool, NoMemory>
     requires { at.0 < length course.old.now.machines.items }
     ensures { IsSameAttempt course.old course.new }
@@ -73,8 +75,8 @@ fn work<M: SavingMachine>(course: &mut Course<M>, at: MachineNo) -> Result<bool,
     Ok(moved)
 }
 
-/// A vertex is updated at once, or where the machine's pick may not be a scope is admitted and goes as far as it may. Says whether there was
-/// one.
+/// A vertex is updated at once, or where the machine's pick may not be a scope is admitted and goes
+/// as far as it may. Says whether there was one.
 fn take_up<M: SavingMachine>(course: &mut Course<M>, at: MachineNo) -> Result<bool, NoMemory>
     requires { at.0 < length course.old.now.machines.items }
     ensures { IsSameAttempt course.old course.new }
@@ -89,7 +91,8 @@ fn take_up<M: SavingMachine>(course: &mut Course<M>, at: MachineNo) -> Result<bo
     Ok(true)
 }
 
-/// Locks are granted and updates made at the machine until there are none, or it reaches the count of a failure. Says whether there was one.
+/// Locks are granted and updates made at the machine until there are none, or it reaches the count
+/// of a failure. Says whether there was one.
 fn settle<M: SavingMachine>(course: &mut Course<M>, at: MachineNo) -> Result<bool, NoMemory>
     requires { at.0 < length course.old.now.machines.items }
     ensures { IsSameAttempt course.old course.new }
@@ -102,8 +105,8 @@ fn settle<M: SavingMachine>(course: &mut Course<M>, at: MachineNo) -> Result<boo
     Ok(true)
 }
 
-/// A lock is granted at the machine, or else an update made, or else a snapshot update, or else its section is put out. Says whether there
-/// was one.
+/// A lock is granted at the machine, or else an update made, or else a snapshot update, or else its
+/// section is put out. Says whether there was one.
 fn goes_on<M: SavingMachine>(course: &mut Course<M>, at: MachineNo) -> Result<bool, NoMemory>
     requires { at.0 < length course.old.now.machines.items }
     ensures { IsSameAttempt course.old course.new }
@@ -145,7 +148,8 @@ fn tell_all<M: SavingMachine>(course: &mut Course<M>, from: MachineNo) -> Result
     Ok(moved)
 }
 
-/// All that waits at the one machine for the other is sent and received. Says whether anything moved.
+/// All that waits at the one machine for the other is sent and received. Says whether anything
+/// moved.
 fn tell<M: SavingMachine>(
     course: &mut Course<M>,
     from: MachineNo,
@@ -160,7 +164,8 @@ fn tell<M: SavingMachine>(
     Ok(sent || received)
 }
 
-/// What the coordinator has for the machine is brought, and what the machine has for the coordinator. Says whether anything moved.
+/// What the coordinator has for the machine is brought, and what the machine has for the
+/// coordinator. Says whether anything moved.
 fn hear_and_report<M: SavingMachine>(
     course: &mut Course<M>,
     at: MachineNo,

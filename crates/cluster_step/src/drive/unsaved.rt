@@ -20,8 +20,9 @@ pub enum UnsavedPause {
     Spent,
 }
 
-/// Makes rounds until the attempt pauses, and says why: it pauses as soon as nothing is left to do. For want of memory the course stays where
-/// it is. No snapshot is acknowledged, and no attempt begins.
+/// Makes rounds until the attempt pauses, and says why: it pauses as soon as nothing is left to do.
+/// For want of memory the course stays where it is. No snapshot is acknowledged, and no attempt
+/// begins.
 pub fn drive_unsaved<R: Wait, M: SavingMachine>(
     rt: &R,
     course: &mut Course<M>,

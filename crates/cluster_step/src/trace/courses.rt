@@ -24,11 +24,13 @@ use std::alloc::Global;
 use std::marker::Model;
 use std::snapshot::Snapshot;
 
-/// A cluster in the course of a call that runs a job. Contracts see how it began, the failures that the job orders, how many updates
-/// each machine had completed as the newest attempt began, and the cluster as it was remembered and as it is now. Whatever happens in it
-/// follows the job: a machine that has reached the count of a failure makes no update and hears nothing of the coordinator until it
-/// fails, and no other machine fails. So what has happened since an opening of the law makes a call, of which all laws of calls hold. Each
-/// base may be one that another hand made: then the law may have no such opening, and what is said of each course says nothing.
+/// A cluster in the course of a call that runs a job. Contracts see how it began, the failures that
+/// the job orders, how many updates each machine had completed as the newest attempt began, and the
+/// cluster as it was remembered and as it is now. Whatever happens in it follows the job: a machine
+/// that has reached the count of a failure makes no update and hears nothing of the coordinator
+/// until it fails, and no other machine fails. So what has happened since an opening of the law
+/// makes a call, of which all laws of calls hold. Each base may be one that another hand made: then
+/// the law may have no such opening, and what is said of each course says nothing.
 #[derive(Drop)]
 pub struct Course<M: SavingMachine> {
     cluster: SnapCluster<M>,
@@ -43,14 +45,27 @@ impl<M: SavingMachine> Model for Course<M> {
 
     ghost Value = { CourseView M };
 
-    ghost view = { λ c. record { start = c.start.value; failures = c.failures.items; done = c.done.items; since = c.since.value; now = c.cluster } };
+    ghost view = { λ c. record {
+      start = c.start.value;
+      failures = c.failures.items;
+      done = c.done.items;
+      since = c.since.value;
+      now = c.cluster;
+    } };
 
-    ghost invariant = { λ c. HasCourse M.stands (record { start = c.start.value; failures = c.failures.items; done = c.done.items; since = c.since.value; now = c.cluster }) };
+    ghost invariant = { λ c. HasCourse M.stands (record {
+      start = c.start.value;
+      failures = c.failures.items;
+      done = c.done.items;
+      since = c.since.value;
+      now = c.cluster;
+    }) };
 }
 
 impl<M: SavingMachine> Course<M> {
-    /// A call opens: its machines begin their first attempt, each at its place, with this engine and this store. The first update gets the
-    /// ticket `next`, and there are `left` of them. Of the base only what the machines have of it is asked.
+    /// A call opens: its machines begin their first attempt, each at its place, with this engine
+    /// and this store. The first update gets the ticket `next`, and there are `left` of them. Of
+    /// the base only what the machines have of it is asked.
     pub fn open(
         alloc: Global,
         machines: Vec<M>,
@@ -60,7 +75,9 @@ impl<M: SavingMachine> Course<M> {
         left: u64,
         failures: Vec<FailureAt>,
     ) -> Result<Course<M>, NoMemory>
-        requires start { (st : Setting) × (base : BaseView) × (before : Cluster) × StartsSaving M.stands machines.items engine (store_view store) next left st base before }
+        requires start { (st : Setting) × (base : BaseView) × (before : Cluster) ×
+            StartsSaving M.stands machines.items engine (store_view store)
+            next left st base before }
         requires many { length machines.items < 65535 }
         requires few { next + left < 2 ^ 64 }
         requires newest { store.newest + 1 < 2 ^ 32 }
@@ -70,9 +87,13 @@ impl<M: SavingMachine> Course<M> {
         ensures machines { IfOk result (λ c. length c.now.machines.items ≡ length machines.items) }
         ensures runs { IfOk result (λ c. c.now.stopped ≡ false) }
         // It is an opening of the law, in each setting in which the machines start.
-        ensures opened { IfOk result (λ c. (st : Setting) (o : CallOpening) → StartsCall M.stands machines.items engine (store_view store) next left failures.items st o → OpensCall M.stands c.start c.failures st o) }
+        ensures opened { IfOk result (λ c. (st : Setting) (o : CallOpening) →
+            StartsCall M.stands machines.items engine (store_view store) next left failures.items st
+            o → OpensCall M.stands c.start c.failures st o) }
         // Nothing has happened yet.
-        ensures begun { IfOk result (λ c. (st : Setting) (o : CallOpening) → OpensCall M.stands c.start c.failures st o → IsCourseNow M.stands c st o [] (first_cluster st o)) }
+        ensures begun { IfOk result (λ c. (st : Setting) (o : CallOpening) →
+            OpensCall M.stands c.start c.failures st o →
+            IsCourseNow M.stands c st o [] (first_cluster st o)) }
     {
         let done = Vec::from_elem(alloc, 0, machines.len())?;
         let cluster = SnapCluster::new(alloc, machines, engine, store, next, left)?;
@@ -87,14 +108,16 @@ impl<M: SavingMachine> Course<M> {
         })
     }
 
-    /// The event happens, where it may happen now and follows the job. It acknowledges no snapshot: that is done by `acknowledge`; and it
-    /// doesn't end the run.
+    /// The event happens, where it may happen now and follows the job. It acknowledges no snapshot:
+    /// that is done by `acknowledge`; and it doesn't end the run.
     pub fn apply(&mut self, event: Event) -> Result<(), Refused>
         requires names { NamesItsMachines (length self.old.now.machines.items) event }
         requires none { GoesOnBy event }
         ensures made { OnOk result (HappensInCall M.stands self.old event self.new) }
-        ensures not_now { IsErrOf result Refused.NotNow → CanNotHappenInCall M.stands self.old event }
-        ensures no_memory { IsErrOf result Refused.NoMemory → CanHappenInCall M.stands self.old event }
+        ensures not_now { IsErrOf result Refused.NotNow →
+            CanNotHappenInCall M.stands self.old event }
+        ensures no_memory { IsErrOf result Refused.NoMemory →
+            CanHappenInCall M.stands self.old event }
         ensures unchanged { OnErr result (StaysThere M.stands self.old self.new) }
         ensures same { IsSameAttempt self.old self.new }
     {
@@ -104,14 +127,18 @@ impl<M: SavingMachine> Course<M> {
         self.cluster.apply(event)
     }
 
-    /// A vertex of the machine is updated at once, where the one that the machine looks at may be now and the machine has reached the count of
-    /// no failure: a scope of it is admitted, each of its locks is granted in turn, and its update is made, all on this machine. Of the
-    /// vertices that may be admitted the machine looks at one of its choice. Where scopes take no locks none is.
+    /// A vertex of the machine is updated at once, where the one that the machine looks at may be
+    /// now and the machine has reached the count of no failure: a scope of it is admitted, each of
+    /// its locks is granted in turn, and its update is made, all on this machine. Of the vertices
+    /// that may be admitted the machine looks at one of its choice. Where scopes take no locks none
+    /// is.
     pub fn update_at_once(&mut self, at: MachineNo) -> Result<Vertex, Refused>
         requires { at.0 < length self.old.now.machines.items }
         ensures made { IfOk result (λ v. HappensAtOnceInCall M.stands self.old at.0 v.0 self.new) }
-        ensures not_now { IsErrOf result Refused.NotNow → CanNotHappenAtOnceInCall M.stands self.old at }
-        ensures no_memory { IsErrOf result Refused.NoMemory → CanHappenAtOnceInCall M.stands self.old at.0 }
+        ensures not_now { IsErrOf result Refused.NotNow →
+            CanNotHappenAtOnceInCall M.stands self.old at }
+        ensures no_memory { IsErrOf result Refused.NoMemory →
+            CanHappenAtOnceInCall M.stands self.old at.0 }
         ensures unchanged { OnErr result (StaysThere M.stands self.old self.new) }
         ensures same { IsSameAttempt self.old self.new }
     {
@@ -132,8 +159,8 @@ impl<M: SavingMachine> Course<M> {
         self.since = Snapshot::of(&self.cluster);
     }
 
-    /// All machines go back to a base: the call goes on with these machines, which begin its next attempt from it. Of the base only what the
-    /// machines have of it is asked.
+    /// All machines go back to a base: the call goes on with these machines, which begin its next
+    /// attempt from it. Of the base only what the machines have of it is asked.
     pub fn recover(
         &mut self,
         alloc: Global,
@@ -141,15 +168,19 @@ impl<M: SavingMachine> Course<M> {
         engine: Engine,
         store: Store,
     ) -> Result<(), NoMemory>
-        requires again { (st : Setting) × (base : BaseView) × (before : Cluster) × StartsSaving M.stands machines.items engine (store_view store) self.old.now.next self.old.now.left st base before }
+        requires again { (st : Setting) × (base : BaseView) × (before : Cluster) ×
+            StartsSaving M.stands machines.items engine (store_view store) self.old.now.next
+            self.old.now.left st base before }
         requires many { length machines.items ≡ length self.old.now.machines.items }
         requires newest { store.newest + 1 < 2 ^ 32 }
         requires length { store.length < 2 ^ 32 }
-        ensures recovered { OnOk result (HasGoneBack M.stands self.old machines.items engine (store_view store) self.new) }
+        ensures recovered { OnOk result
+            (HasGoneBack M.stands self.old machines.items engine (store_view store) self.new) }
         ensures since { OnOk result (self.new.since ≡ self.new.now) }
         ensures runs { OnOk result (self.new.now.stopped ≡ false) }
         ensures unchanged { OnErr result (self.new ≡ self.old) }
-        ensures same { (self.new.start ≡ self.old.start) × (self.new.failures ≡ self.old.failures) × (length self.new.now.machines.items ≡ length self.old.now.machines.items) }
+        ensures same { (self.new.start ≡ self.old.start) × (self.new.failures ≡ self.old.failures) ×
+            (length self.new.now.machines.items ≡ length self.old.now.machines.items) }
     {
         let done = self.all_completed(alloc)?;
         self.cluster.recover(alloc, machines, engine, store)?;
@@ -179,26 +210,32 @@ impl<M: SavingMachine> Course<M> {
     /// Whether the machine has reached the count of a failure in the newest attempt.
     pub fn has_reached(&self, m: MachineNo) -> bool
         requires { m.0 < length self.now.now.machines.items }
-        ensures { InEachCourse M.stands self.now (λ st o events c. result ≡ has_reached self.now.failures c m.0) }
+        ensures { InEachCourse M.stands self.now (λ st o events c.
+            result ≡ has_reached self.now.failures c m.0) }
     {
         let before = self.done[m.0 as usize];
         let made = self.log(m).len() as u64;
         is_count_reached(&self.failures, m, before, made)
     }
 
-    /// The updates that a machine has made in the newest attempt: its part of what the call's last attempt made.
+    /// The updates that a machine has made in the newest attempt: its part of what the call's last
+    /// attempt made.
     pub fn log(&self, m: MachineNo) -> &[Entry]
         requires { m.0 < length self.now.now.machines.items }
-        ensures log { InEachCourse M.stands self.now (λ st o events c. result.now ≡ (c.machine m.0).part.log) }
-        ensures made { OfTheCall M.stands self.now (λ st o c call. result.now ≡ entries_of m.0 call.last.made) }
+        ensures log { InEachCourse M.stands self.now (λ st o events c.
+            result.now ≡ (c.machine m.0).part.log) }
+        ensures made { OfTheCall M.stands self.now (λ st o c call.
+            result.now ≡ entries_of m.0 call.last.made) }
     {
         self.cluster.machine(m).log()
     }
 
-    /// How many updates a machine has completed in this call. Each has a ticket of its own, so that they are fewer than 2^64.
+    /// How many updates a machine has completed in this call. Each has a ticket of its own, so that
+    /// they are fewer than 2^64.
     pub fn completed(&self, m: MachineNo) -> u64
         requires { m.0 < length self.now.now.machines.items }
-        ensures count { InEachCourse M.stands self.now (λ st o events c. result ≡ completed (c.machine m.0)) }
+        ensures count { InEachCourse M.stands self.now (λ st o events c.
+            result ≡ completed (c.machine m.0)) }
         ensures made { OfTheCall M.stands self.now (λ st o c call. result ≡ done_of call m.0) }
     {
         let made = self.log(m).len() as u64;
@@ -207,8 +244,11 @@ impl<M: SavingMachine> Course<M> {
 
     /// How many updates each machine has completed in this call.
     pub fn all_completed(&self, alloc: Global) -> Result<Vec<u64>, NoMemory>
-        ensures many { IfOk result (λ counts. length counts.items ≡ length self.now.now.machines.items) }
-        ensures each { IfOk result (λ counts. (a : ℕ) → a < length self.now.now.machines.items → InEachCourse M.stands self.now (λ st o events c. slice_index_or counts.items a 0 ≡ completed (c.machine a))) }
+        ensures many { IfOk result (λ counts.
+            length counts.items ≡ length self.now.now.machines.items) }
+        ensures each { IfOk result (λ counts. (a : ℕ) → a < length self.now.now.machines.items →
+            InEachCourse M.stands self.now (λ st o events c.
+            slice_index_or counts.items a 0 ≡ completed (c.machine a))) }
     {
         let many = self.cluster.machines();
         let mut counts = Vec::with_capacity(alloc, many)?;
@@ -224,32 +264,37 @@ impl<M: SavingMachine> Course<M> {
         ensures small { result < 65535 }
         ensures course { HasCourse M.stands self.now }
         ensures call { HasCall M.stands self.now }
-        // No snapshot was acknowledged since the cluster was remembered, and the attempt is the same.
+        // No snapshot was acknowledged since the cluster was remembered, and the attempt is the
+        // same.
         ensures since { CourseGoesOn M.stands (as_since self.now) self.now }
     {
         self.cluster.machines()
     }
 
-    /// What is due: a record, the next snapshot, the end, a step, or a wave. Where it is the end the call has ended; and the snapshot of a
-    /// record that is due may follow those of the call.
+    /// What is due: a record, the next snapshot, the end, a step, or a wave. Where it is the end
+    /// the call has ended; and the snapshot of a record that is due may follow those of the call.
     pub fn due(&self) -> Due
         ensures due { IsDueOf self.now.now.coordinator result }
-        ensures ended { result ≡ Due.Ended → OfTheCall M.stands self.now (λ st o c call. HasEndedCall st call) }
-        ensures pending { (k : ℕ) → result ≡ Due.Record k → OfTheCall M.stands self.now (λ st o c call. MayFollow st c.coordinator call) }
+        ensures ended { result ≡ Due.Ended →
+            OfTheCall M.stands self.now (λ st o c call. HasEndedCall st call) }
+        ensures pending { (k : ℕ) → result ≡ Due.Record k →
+            OfTheCall M.stands self.now (λ st o c call. MayFollow st c.coordinator call) }
     {
         self.cluster.due()
     }
 
     /// Whether the waves have shown that nothing is left to do: then the call leaves nothing.
     pub fn leaves_nothing(&self) -> bool
-        ensures { IsTrue result → OfTheCall M.stands self.now (λ st o c call. LeavesNothing st call) }
+        ensures { IsTrue result →
+            OfTheCall M.stands self.now (λ st o c call. LeavesNothing st call) }
     {
         self.cluster.has_seen_the_end()
     }
 
     /// How many tickets are left: the budget is these and the updates that were made.
     pub fn left(&self) -> u64
-        ensures { OfTheCall M.stands self.now (λ st o c call. length (made_of call) + result ≡ o.first.left) }
+        ensures { OfTheCall M.stands self.now (λ st o c call.
+            length (made_of call) + result ≡ o.first.left) }
     {
         self.cluster.left()
     }
@@ -268,13 +313,18 @@ impl<M: SavingMachine> Course<M> {
         self.cluster.is_stopped()
     }
 
-    /// The record of the snapshot under way. It acknowledges nothing: `acknowledge` does, for which there is room from then on. `NotNow` comes
-    /// exactly where the snapshot may not be acknowledged.
+    /// The record of the snapshot under way. It acknowledges nothing: `acknowledge` does, for which
+    /// there is room from then on. `NotNow` comes exactly where the snapshot may not be
+    /// acknowledged.
     pub fn record(&mut self, alloc: Global) -> Result<Record, Refused>
-        ensures is { IfOk result (λ made. InEachCourse M.stands self.old (λ st o events c. IsRecordFor st (snapshot_due c.coordinator) made)) }
+        ensures is { IfOk result (λ made.
+            InEachCourse M.stands self.old (λ st o events c.
+            IsRecordFor st (snapshot_due c.coordinator) made)) }
         ensures due { OnOk result (CanHappenInCall M.stands self.old (Event.Lead Lead.Record)) }
-        ensures not_now { IsErrOf result Refused.NotNow → CanNotHappenInCall M.stands self.old (Event.Lead Lead.Record) }
-        ensures no_memory { IsErrOf result Refused.NoMemory → CanHappenInCall M.stands self.old (Event.Lead Lead.Record) }
+        ensures not_now { IsErrOf result Refused.NotNow →
+            CanNotHappenInCall M.stands self.old (Event.Lead Lead.Record) }
+        ensures no_memory { IsErrOf result Refused.NoMemory →
+            CanHappenInCall M.stands self.old (Event.Lead Lead.Record) }
         ensures stays { StaysThere M.stands self.old self.new }
         ensures same { IsSameAttempt self.old self.new }
         ensures ready { IfOk result (λ made. IsReadyToAcknowledge self.new.now made.number) }
@@ -285,32 +335,42 @@ impl<M: SavingMachine> Course<M> {
     /// A lock that may be granted at the machine; `None` exactly where none may be.
     pub fn next_grant(&mut self, at: MachineNo) -> Option<Vertex>
         requires { at.0 < length self.old.now.machines.items }
-        ensures some { IfSome result (λ x. CanTakePlace M.stands self.old.now (Event.Local (Local.Grant at x))) }
-        ensures none { IfNone result ((x : Vertex) → CanNotTakePlace M.stands self.old.now (Event.Local (Local.Grant at x))) }
+        ensures some { IfSome result (λ x.
+            CanTakePlace M.stands self.old.now (Event.Local (Local.Grant at x))) }
+        ensures none { IfNone result ((x : Vertex) →
+            CanNotTakePlace M.stands self.old.now (Event.Local (Local.Grant at x))) }
         ensures stays { StaysThere M.stands self.old self.new }
         ensures same { IsSameAttempt self.old self.new }
     {
         self.cluster.next_grant(at)
     }
 
-    /// A scope of the machine whose update may be made, but for a ticket that it may lack: its vertex is a task, also after the call's order.
-    /// Where it is `None` no update of the machine may be made.
+    /// A scope of the machine whose update may be made, but for a ticket that it may lack: its
+    /// vertex is a task, also after the call's order. Where it is `None` no update of the machine
+    /// may be made.
     pub fn next_update(&self, at: MachineNo) -> Option<ScopeId>
         requires { at.0 < length self.now.now.machines.items }
         ensures home { IfSome result (λ s. s.home ≡ at) }
-        ensures task { IfSome result (λ s. OfTheCall M.stands self.now (λ st o c call. HasTaskLeft st call)) }
-        ensures flagged { IfSome result (λ s. InEachCourse M.stands self.now (λ st o events c. (v : ℕ) × ((c.machine at.0).part.task v ≡ true))) }
-        ensures none { IfNone result ((s : ScopeId) → s.home ≡ at → CanNotTakePlace M.stands self.now.now (Event.Local (Local.Update s))) }
+        ensures task { IfSome result (λ s.
+            OfTheCall M.stands self.now (λ st o c call. HasTaskLeft st call)) }
+        ensures flagged { IfSome result (λ s.
+            InEachCourse M.stands self.now (λ st o events c. (v : ℕ) ×
+            ((c.machine at.0).part.task v ≡ true))) }
+        ensures none { IfNone result ((s : ScopeId) → s.home ≡ at →
+            CanNotTakePlace M.stands self.now.now (Event.Local (Local.Update s))) }
     {
         self.cluster.machine(at).next_update()
     }
 
-    /// A scope of the machine whose snapshot update may be made; `None` exactly where there is none.
+    /// A scope of the machine whose snapshot update may be made; `None` exactly where there is
+    /// none.
     pub fn next_mark(&self, at: MachineNo) -> Option<ScopeId>
         requires { at.0 < length self.now.now.machines.items }
         ensures home { IfSome result (λ s. s.home ≡ at) }
-        ensures some { IfSome result (λ s. CanTakePlace M.stands self.now.now (Event.Local (Local.Mark s))) }
-        ensures none { IfNone result ((s : ScopeId) → s.home ≡ at → CanNotTakePlace M.stands self.now.now (Event.Local (Local.Mark s))) }
+        ensures some { IfSome result (λ s.
+            CanTakePlace M.stands self.now.now (Event.Local (Local.Mark s))) }
+        ensures none { IfNone result ((s : ScopeId) → s.home ≡ at →
+            CanNotTakePlace M.stands self.now.now (Event.Local (Local.Mark s))) }
     {
         self.cluster.next_mark(at)
     }
@@ -318,7 +378,8 @@ impl<M: SavingMachine> Course<M> {
     /// Whether the machine has failed in this attempt.
     pub fn has_failed(&self, m: MachineNo) -> bool
         requires { m.0 < length self.now.now.machines.items }
-        ensures { InEachCourse M.stands self.now (λ st o events c. result ≡ (c.machine m.0).failed) }
+        ensures { InEachCourse M.stands self.now (λ st o events c.
+            result ≡ (c.machine m.0).failed) }
     {
         self.cluster.has_failed(m)
     }
@@ -326,15 +387,18 @@ impl<M: SavingMachine> Course<M> {
     /// A machine, to be read.
     pub fn machine(&self, m: MachineNo) -> &M
         requires { m.0 < length self.now.now.machines.items }
-        ensures { InEachCourse M.stands self.now (λ st o events c. M.stands (newest_setting st o events) m.0 (c.machine m.0) result.now) }
+        ensures { InEachCourse M.stands self.now (λ st o events c.
+            M.stands (newest_setting st o events) m.0 (c.machine m.0) result.now) }
     {
         self.cluster.machine(m)
     }
 
-    /// Whether word is on its way between the coordinator and the machine: it waits at one of them, or is on a link.
+    /// Whether word is on its way between the coordinator and the machine: it waits at one of them,
+    /// or is on a link.
     pub fn has_word(&self, at: MachineNo) -> bool
         requires { at.0 < length self.now.now.machines.items }
-        ensures { InEachCourse M.stands self.now (λ st o events c. (result ≡ false) ↔ HasNoWordAt c at.0) }
+        ensures { InEachCourse M.stands self.now (λ st o events c. (result ≡ false) ↔
+            HasNoWordAt c at.0) }
     {
         self.cluster.has_word(at)
     }

@@ -6,8 +6,9 @@ ghost use Rattle.call_laws.specs.whole_calls.Following.{reaches};
 use crate::clusters::{Event, Local, Passage};
 use gl_base::{FailureAt, MachineNo};
 
-/// The machine of the event, where it is one that a machine makes only before it has reached the count of a failure, as an update and what
-/// it hears of the coordinator, or only once it has, as failing.
+/// The machine of the event, where it is one that a machine makes only before it has reached the
+/// count of a failure, as an update and what it hears of the coordinator, or only once it has, as
+/// failing.
 pub(crate) fn watched(event: Event) -> Option<(MachineNo, bool)>
     ensures { result ≡ events.watched event }
 {
@@ -19,7 +20,8 @@ pub(crate) fn watched(event: Event) -> Option<(MachineNo, bool)>
     }
 }
 
-/// Whether the machine, which had completed so many updates before, has reached the count of one of the failures with these more.
+/// Whether the machine, which had completed so many updates before, has reached the count of one of
+/// the failures with these more.
 pub(crate) fn is_count_reached(failures: &[FailureAt], m: MachineNo, before: u64, made: u64) -> bool
     ensures { result ≡ reaches failures.now m.0 before (before + made) }
 {
@@ -30,7 +32,8 @@ pub(crate) fn is_count_reached(failures: &[FailureAt], m: MachineNo, before: u64
 
 /// Whether it has reached the count of this one.
 fn is_reached(failure: &FailureAt, m: MachineNo, before: u64, made: u64) -> bool
-    ensures { result ≡ ((failure.now.machine.0 == m.0) && (nat_lt before failure.now.after && nat_le failure.now.after (before + made))) }
+    ensures { result ≡ ((failure.now.machine.0 == m.0) && (nat_lt before failure.now.after && nat_le
+        failure.now.after (before + made))) }
 {
     failure.machine == m && before < failure.after && failure.after - before <= made
 }

@@ -52,7 +52,8 @@ pub fn tell_each(out: &mut Outboxes, machines: u16, word: Word)
     requires many { length out.old.machines ≡ machines }
     requires room { (b : ℕ) → b < machines → 0 < room_for out.old b }
     ensures many { length out.new.machines ≡ machines }
-    ensures told { (b : ℕ) → b < machines → waiting_at out.new b ≡ waiting_at out.old b ++ word_message word ∷ [] }
+    ensures told { (b : ℕ) → b < machines →
+        waiting_at out.new b ≡ waiting_at out.old b ++ word_message word ∷ [] }
 {
     for machine in 0..machines {
         out.put(Peer::Machine(MachineNo(machine)), word.message());

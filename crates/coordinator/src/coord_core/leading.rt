@@ -34,8 +34,9 @@ pub enum Due {
     Nothing,
 }
 
-/// The coordinator of a cluster: how many waves it has put out, whether answers to the newest are missing, what the last two brought
-/// in, what it knows of its steps and of snapshots, and what waits to be sent to each machine.
+/// The coordinator of a cluster: how many waves it has put out, whether answers to the newest are
+/// missing, what the last two brought in, what it knows of its steps and of snapshots, and what
+/// waits to be sent to each machine.
 #[derive(Drop)]
 pub struct Coordinator {
     machines: u16,
@@ -55,13 +56,24 @@ impl Model for Coordinator {
 
     ghost Value = { CoordinatorView };
 
-    ghost view = { λ c. record { counting = record { put_out = c.put_out; waiting = c.waiting; waves = c.waves }; steps = c.steps; saving = c.saving; out = c.out } };
+    ghost view = { λ c. record {
+      counting = record {
+        put_out = c.put_out;
+        waiting = c.waiting;
+        waves = c.waves;
+      };
+      steps = c.steps;
+      saving = c.saving;
+      out = c.out;
+    } };
 
-    ghost invariant = { λ c. AreOutboxesOf c.out c.machines × (length c.saving.come ≡ c.machines) × IsSavingKept c.saving × AreStepsKept c.steps };
+    ghost invariant = { λ c. AreOutboxesOf c.out c.machines × (length c.saving.come ≡ c.machines) ×
+        IsSavingKept c.saving × AreStepsKept c.steps };
 }
 
 impl Coordinator {
-    /// No wave was put out to so many machines, which take locks, and nothing waits. No snapshots are taken.
+    /// No wave was put out to so many machines, which take locks, and nothing waits. No snapshots
+    /// are taken.
     pub fn new(alloc: Global, machines: u16) -> Result<Coordinator, NoMemory>
         ensures { IfOk result (λ c. IsFirstOf machines c) }
     {
@@ -69,8 +81,8 @@ impl Coordinator {
         Coordinator::first(alloc, machines, Engine::Locking, saving)
     }
 
-    /// No wave and no step was put out to so many machines, whose updates are kept apart so, and nothing waits. Snapshots are taken,
-    /// behind the newest one of this store.
+    /// No wave and no step was put out to so many machines, whose updates are kept apart so, and
+    /// nothing waits. Snapshots are taken, behind the newest one of this store.
     pub fn with_store(
         alloc: Global,
         machines: u16,
@@ -85,10 +97,11 @@ impl Coordinator {
         Coordinator::first(alloc, machines, engine, saving)
     }
 
-    /// What is due: a record where all sections of the snapshot under way have come, also where the store takes it no more; else a
-    /// snapshot where the next one is to begin; else the end where no snapshot is under way and the last two waves showed it; else a
-    /// step where the next one may be put out; else a wave where one may. Some cluster has this coordinator, so that what is said of
-    /// all of them says something.
+    /// What is due: a record where all sections of the snapshot under way have come, also where the
+    /// store takes it no more; else a snapshot where the next one is to begin; else the end where
+    /// no snapshot is under way and the last two waves showed it; else a step where the next one
+    /// may be put out; else a wave where one may. Some cluster has this coordinator, so that what
+    /// is said of all of them says something.
     pub fn due(&self) -> Due
         ensures due { IsDueOf self.now result }
         ensures cluster { HasCluster self.now }
@@ -128,8 +141,9 @@ impl Coordinator {
         Ok(())
     }
 
-    /// Puts the next step out: tells each machine its colour. `NotNow` comes exactly where there are no colours, where answers to the
-    /// last wave are missing, where the step before isn't over, or where a snapshot is due.
+    /// Puts the next step out: tells each machine its colour. `NotNow` comes exactly where there
+    /// are no colours, where answers to the last wave are missing, where the step before isn't
+    /// over, or where a snapshot is due.
     pub fn step(&mut self) -> Result<(), Refused>
         ensures put_out { OnOk result (MayPutStep self.old × HasPutStep self.old self.new) }
         ensures not_now { IsErrOf result Refused.NotNow → MayNotPutStep self.old }
@@ -146,8 +160,9 @@ impl Coordinator {
         Ok(())
     }
 
-    /// Puts the next wave out: asks each machine for its counts. `NotNow` comes exactly where answers to the last one are missing, a
-    /// snapshot or a step is due, or with locks a snapshot is under way; the end of its number is want of memory.
+    /// Puts the next wave out: asks each machine for its counts. `NotNow` comes exactly where
+    /// answers to the last one are missing, a snapshot or a step is due, or with locks a snapshot
+    /// is under way; the end of its number is want of memory.
     pub fn wave(&mut self) -> Result<(), Refused>
         ensures put_out { OnOk result (MayPutWave self.old × HasPutWave self.old self.new) }
         ensures not_now { IsErrOf result Refused.NotNow → MayNotPutWave self.old }
@@ -168,8 +183,9 @@ impl Coordinator {
         Ok(())
     }
 
-    /// Makes room for the word to each machine that the snapshot under way is acknowledged, and gives its number. `NotNow` comes exactly
-    /// where a section is missing, or the store takes no record more, or not this one.
+    /// Makes room for the word to each machine that the snapshot under way is acknowledged, and
+    /// gives its number. `NotNow` comes exactly where a section is missing, or the store takes no
+    /// record more, or not this one.
     pub fn make_ready(&mut self) -> Result<u32, Refused>
         ensures due { OnOk result (MayLeadRecord self.old) }
         ensures ready { IfOk result (λ number. IsReadyToRecord self.new number) }
@@ -185,8 +201,9 @@ impl Coordinator {
         Ok(self.saving.begun())
     }
 
-    /// The record of the snapshot under way, of which nothing is told yet; and room for the word of it to each machine. `NotNow` comes
-    /// exactly where a section is missing, or the store takes no record more, or not this one. It goes over each number once.
+    /// The record of the snapshot under way, of which nothing is told yet; and room for the word of
+    /// it to each machine. `NotNow` comes exactly where a section is missing, or the store takes no
+    /// record more, or not this one. It goes over each number once.
     pub fn record(&mut self, alloc: Global) -> Result<Record, Refused>
         ensures due { OnOk result (MayLeadRecord self.old) }
         ensures made { IfOk result (λ made. IsRecordDueOf self.old made) }
@@ -199,7 +216,8 @@ impl Coordinator {
         Ok(self.saving.record(alloc)?)
     }
 
-    /// The snapshot of this number is acknowledged: each machine is told, and its sections are gone. It takes no memory.
+    /// The snapshot of this number is acknowledged: each machine is told, and its sections are
+    /// gone. It takes no memory.
     pub fn recorded(&mut self, number: u32)
         requires { IsReadyToRecord self.old number }
         ensures { HasRecorded self.old self.new }
@@ -208,14 +226,16 @@ impl Coordinator {
         self.saving.acknowledge();
     }
 
-    /// Whether counts of this machine for this wave may be received: it is the newest one, and they are missing.
+    /// Whether counts of this machine for this wave may be received: it is the newest one, and they
+    /// are missing.
     pub fn awaits(&self, from: MachineNo, wave: u64) -> bool
         ensures { (result ≡ true) ↔ MayBeCounted self.now.counting from.0 wave }
     {
         self.waiting && wave < self.put_out && self.put_out - 1 == wave && self.waves.awaits(from)
     }
 
-    /// Whether the waves have shown the end: all answers have come, and in the last two waves nothing was left to do.
+    /// Whether the waves have shown the end: all answers have come, and in the last two waves
+    /// nothing was left to do.
     pub fn has_seen_the_end(&self) -> bool
         ensures { IsTrue result → HasShownIt self.now }
     {
@@ -236,7 +256,8 @@ impl Coordinator {
         m.0 < self.machines
     }
 
-    /// A message of a machine has come: its counts, its section, or that it wants a snapshot. It takes no memory.
+    /// A message of a machine has come: its counts, its section, or that it wants a snapshot. It
+    /// takes no memory.
     pub fn receive(&mut self, from: MachineNo, message: Message)
         requires { MayReport self.old from.0 (message_view message) }
         ensures { HasTakenReport self.old self.new from.0 (message_view message) }
@@ -298,7 +319,8 @@ impl Coordinator {
         requires kept { IsSavingKept saving }
         ensures { IfOk result (λ c. IsFirstSaving machines engine saving c) }
     {
-        // A drop by a call is proved in one step; one at the end of the scope is proved here, field by field.
+        // A drop by a call is proved in one step; one at the end of the scope is proved here, field
+        // by field.
         let Ok(waves) = Waves::new(alloc, machines) else {
             drop(saving);
             return Err(NoMemory);

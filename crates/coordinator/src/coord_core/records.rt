@@ -8,7 +8,8 @@ use gl_base::{Entry, NoMemory, Record, SavedPart};
 use std::alloc::Global;
 use wire::wire_msgs::Section;
 
-/// The record of these sections: the numbers of each by vertex and by edge, and the entries of all by ticket.
+/// The record of these sections: the numbers of each by vertex and by edge, and the entries of all
+/// by ticket.
 pub fn record_of(alloc: Global, number: u32, come: &[Option<Section>]) -> Result<Record, NoMemory>
     ensures { IfOk result (IsRecordFrom number (map (option_map section_view) come.now)) }
 {
@@ -21,7 +22,9 @@ pub fn record_of(alloc: Global, number: u32, come: &[Option<Section>]) -> Result
 
 /// The entries of all sections, by ticket.
 fn entries_of(alloc: Global, come: &[Option<Section>]) -> Result<Vec<Entry>, NoMemory>
-    ensures all { IfOk result (λ entries. IsPermutation (entries_upto (length come.now) (map (option_map section_view) come.now)) entries.items) }
+    ensures all { IfOk result (λ entries.
+        IsPermutation (entries_upto (length come.now) (map (option_map section_view) come.now))
+        entries.items) }
     ensures by_ticket { IfOk result (λ entries. AreByTicket entries.items) }
 {
     let mut entries = Vec::new(alloc);
@@ -34,7 +37,9 @@ fn entries_of(alloc: Global, come: &[Option<Section>]) -> Result<Vec<Entry>, NoM
 
 /// Adds the entries of a section, where it has come.
 fn push_entries(entries: &mut Vec<Entry>, section: &Option<Section>) -> Result<(), NoMemory>
-    ensures { OnOk result (entries.new.items ≡ entries.old.items ++ entries_told (option_map section_view section.now)) }
+    ensures { OnOk result
+        (entries.new.items ≡ entries.old.items ++ entries_told
+        (option_map section_view section.now)) }
 {
     if let Some(section) = section {
         entries.extend_from_slice(&section.entries)?;
@@ -53,7 +58,8 @@ fn ticket(entry: Entry) -> u64
 
 /// What each machine saved, in the order of the machines.
 fn parts_of(alloc: Global, come: &[Option<Section>]) -> Result<Vec<SavedPart>, NoMemory>
-    ensures { IfOk result (λ parts. ArePartsOf (map (option_map section_view) come.now) parts.items) }
+    ensures { IfOk result (λ parts.
+        ArePartsOf (map (option_map section_view) come.now) parts.items) }
 {
     let mut parts = Vec::with_capacity(alloc, come.len())?;
     for section in come {

@@ -16,8 +16,8 @@ const SNAPSHOTS: u32 = 4096;
 
 const STORE_BYTES: u128 = 1 << 30;
 
-/// What the coordinator knows of snapshots: which ones were begun and acknowledged, the sections that have come, whether one is
-/// wanted, and what the snapshots of this attempt have.
+/// What the coordinator knows of snapshots: which ones were begun and acknowledged, the sections
+/// that have come, whether one is wanted, and what the snapshots of this attempt have.
 #[derive(Drop)]
 pub struct Saving {
     stored: bool,
@@ -148,7 +148,8 @@ impl Saving {
         self.acknowledged < self.begun && have_all_come(&self.come)
     }
 
-    /// Whether a snapshot is due, where the cluster is quiet or not and its machines have told so many updates.
+    /// Whether a snapshot is due, where the cluster is quiet or not and its machines have told so
+    /// many updates.
     pub fn is_snapshot_due(&self, quiet: bool, updates: u128) -> bool
         ensures { IsTrue result ↔ IsSnapshotDue self.now quiet updates }
     {

@@ -13,8 +13,8 @@ pub enum Engine {
     Chromatic(u32),
 }
 
-/// What the coordinator knows of its steps: the colour of the newest one, 0 where none was put out, and how many waves were put out
-/// since, of which no more than two are counted.
+/// What the coordinator knows of its steps: the colour of the newest one, 0 where none was put out,
+/// and how many waves were put out since, of which no more than two are counted.
 #[derive(Drop)]
 pub struct Steps {
     engine: Engine,
@@ -30,7 +30,11 @@ impl Model for Steps {
 
     ghost view = { λ s. record { engine = s.engine; colour = s.colour; since = s.since } };
 
-    ghost invariant = { λ s. AreStepsKept (record { engine = s.engine; colour = s.colour; since = s.since }) };
+    ghost invariant = { λ s. AreStepsKept (record {
+      engine = s.engine;
+      colour = s.colour;
+      since = s.since;
+    }) };
 }
 
 impl Steps {

@@ -6,8 +6,8 @@ use gl_base::NoMemory;
 use std::alloc::Global;
 use wire::wire_msgs::Section;
 
-/// What is known of a store as an attempt begins: how many vertices and edges its graph has, the number of its newest snapshot, and
-/// how many bytes of its file are in use.
+/// What is known of a store as an attempt begins: how many vertices and edges its graph has, the
+/// number of its newest snapshot, and how many bytes of its file are in use.
 #[derive(Clone, Copy)]
 pub struct Store {
     pub vertices: u32,
@@ -18,7 +18,8 @@ pub struct Store {
 
 /// No section of so many machines has come.
 pub fn no_sections(alloc: Global, machines: u16) -> Result<Vec<Option<Section>>, NoMemory>
-    ensures { IfOk result (λ come. map (option_map section_view) come.items ≡ replicate machines None) }
+    ensures { IfOk result (λ come.
+        map (option_map section_view) come.items ≡ replicate machines None) }
 {
     let mut come = Vec::with_capacity(alloc, machines as usize)?;
     for _ in 0..machines {

@@ -6,15 +6,17 @@ ghost use Rattle.coordinator.specs.machine_api.Promises.{Grant, Machine, Mark, S
 use gl_base::{Entry, MachineNo, Refused, ScopeId, Vertex};
 use wire::wire_msgs::{Message, Returned};
 
-/// A machine of a cluster that takes snapshots, with locks or by colours. Each call that changes it is the machine's part of an event: it
-/// is `NotNow` exactly where the event's guard fails, and after an error the machine is what it was. What is promised is promised for
-/// every machine of the law that it is: with all that the law gives a machine, what it counts and what it keeps for snapshots too.
+/// A machine of a cluster that takes snapshots, with locks or by colours. Each call that changes it
+/// is the machine's part of an event: it is `NotNow` exactly where the event's guard fails, and
+/// after an error the machine is what it was. What is promised is promised for every machine of the
+/// law that it is: with all that the law gives a machine, what it counts and what it keeps for
+/// snapshots too.
 pub trait SavingMachine: Drop {
     /// It is the machine of this number of a cluster with this setting, and has this.
     ghost stands: { Setting → ℕ → Machine → Self → Type 0 };
 
-    /// A scope of a vertex that is pending, or that is a task where the window has room, sets out for its locks, or is ready where scopes
-    /// take none. Which vertex is the machine's choice.
+    /// A scope of a vertex that is pending, or that is a task where the window has room, sets out
+    /// for its locks, or is ready where scopes take none. Which vertex is the machine's choice.
     fn admit(&mut self) -> Result<(), Refused>
         ensures admitted { OnOk result (HasAdmittedSome stands self.old self.new) }
         ensures not_now { IsErrOf result Refused.NotNow → CanNotAdmit stands self.old }
@@ -34,18 +36,22 @@ pub trait SavingMachine: Drop {
         ensures none { IfNone result (CanGrantNone stands self.old) }
         ensures unchanged { StandsStill stands self.old self.new };
 
-    /// Makes the update of a ready scope of this home, whose vertex is a task and not pending. It is logged under the ticket; and where
-    /// half of the window is outside the last snapshot, the coordinator is asked for the next one.
+    /// Makes the update of a ready scope of this home, whose vertex is a task and not pending. It
+    /// is logged under the ticket; and where half of the window is outside the last snapshot, the
+    /// coordinator is asked for the next one.
     fn update(&mut self, scope: ScopeId, ticket: u64) -> Result<(), Refused>
         ensures updated { OnOk result (HasDone stands self.old (Update scope ticket) self.new) }
-        ensures not_now { IsErrOf result Refused.NotNow → CanNotDo stands self.old (Update scope ticket) }
-        ensures no_memory { IsErrOf result Refused.NoMemory → CanDo stands self.old (Update scope ticket) }
+        ensures not_now { IsErrOf result Refused.NotNow →
+            CanNotDo stands self.old (Update scope ticket) }
+        ensures no_memory { IsErrOf result Refused.NoMemory →
+            CanDo stands self.old (Update scope ticket) }
         ensures unchanged { OnErr result (StandsStill stands self.old self.new) };
 
-    /// Makes the update of a vertex that is a task and not pending where the window has room, all of whose scope is this machine's, and of
-    /// whose scope nobody holds or waits for a lock: a scope of it is admitted, takes each lock in turn, or none where scopes take none, and
-    /// makes its update. It is logged under the ticket, and the coordinator is asked for a snapshot where it has to be. Of the vertices that
-    /// may be admitted the machine looks at one of its choice.
+    /// Makes the update of a vertex that is a task and not pending where the window has room, all
+    /// of whose scope is this machine's, and of whose scope nobody holds or waits for a lock: a
+    /// scope of it is admitted, takes each lock in turn, or none where scopes take none, and makes
+    /// its update. It is logged under the ticket, and the coordinator is asked for a snapshot where
+    /// it has to be. Of the vertices that may be admitted the machine looks at one of its choice.
     fn update_at_once(&mut self, ticket: u64) -> Result<Vertex, Refused>
         ensures updated { IfOk result (λ v. HasUpdatedAtOnce stands self.old v.0 ticket self.new) }
         ensures not_now { IsErrOf result Refused.NotNow → CanNotUpdateAtOnce stands self.old }
@@ -64,12 +70,14 @@ pub trait SavingMachine: Drop {
         ensures some { IfSome result (CanUpdate stands self.now) }
         ensures none { IfNone result (CanUpdateNone stands self.now) };
 
-    /// A ready scope of this home whose snapshot update may be made now; `None` exactly where there is none.
+    /// A ready scope of this home whose snapshot update may be made now; `None` exactly where there
+    /// is none.
     fn next_mark(&self) -> Option<ScopeId>
         ensures some { IfSome result (λ s. CanDo stands self.now (Mark s)) }
         ensures none { IfNone result (CanMarkNone stands self.now) };
 
-    /// Puts out the section of the snapshot that the machine knows, all of whose vertices have the mark.
+    /// Puts out the section of the snapshot that the machine knows, all of whose vertices have the
+    /// mark.
     fn section(&mut self) -> Result<(), Refused>
         ensures sent { OnOk result (HasDone stands self.old Section self.new) }
         ensures not_now { IsErrOf result Refused.NotNow → CanNotDo stands self.old Section }
@@ -78,19 +86,21 @@ pub trait SavingMachine: Drop {
 
     /// Whether the section may be put out now.
     fn has_section(&mut self) -> bool
-        ensures section { OfEach stands self.old (λ st a m. IsTrue result ↔ MayBeDone st a m Section) }
+        ensures section { OfEach stands self.old (λ st a m. IsTrue result ↔
+            MayBeDone st a m Section) }
         ensures unchanged { StandsStill stands self.old self.new };
 
-    /// Receives a message from another machine: the first on the link in some cluster in which this one stands. For want of memory the
-    /// message comes back.
+    /// Receives a message from another machine: the first on the link in some cluster in which this
+    /// one stands. For want of memory the message comes back.
     fn receive(&mut self, from: MachineNo, message: Message) -> Result<(), Returned>
         requires { MayReceiveFirst stands self.old from.0 message }
         ensures received { OnOk result (HasReceived stands self.old from.0 message self.new) }
         ensures returned { IfErr result (λ back. back.message ≡ message) }
         ensures unchanged { OnErr result (StandsStill stands self.old self.new) };
 
-    /// Receives a message from the coordinator: that a snapshot begins or is acknowledged, a wave, which it answers at once or when its
-    /// share of the step is done, or a step of a colour. For want of memory the message comes back.
+    /// Receives a message from the coordinator: that a snapshot begins or is acknowledged, a wave,
+    /// which it answers at once or when its share of the step is done, or a step of a colour. For
+    /// want of memory the message comes back.
     fn hear(&mut self, message: Message) -> Result<(), Returned>
         requires { MayHearCall stands self.old message }
         ensures heard { OnOk result (HasHeard stands self.old message self.new) }
@@ -107,7 +117,8 @@ pub trait SavingMachine: Drop {
 
     /// Takes the first message that waits to be sent to a machine; `None` exactly where none waits.
     fn outbox_take(&mut self, to: MachineNo) -> Option<Message>
-        ensures taken { IfSome result (λ m. OfEach stands self.old (SendsItsFirst stands to.0 m self.new)) }
+        ensures taken { IfSome result (λ m.
+            OfEach stands self.old (SendsItsFirst stands to.0 m self.new)) }
         ensures none { IfNone result (OfEach stands self.old (λ st a m. m.part.out to.0 ≡ [])) }
         ensures unchanged { IfNone result (StandsStill stands self.old self.new) };
 
@@ -115,10 +126,11 @@ pub trait SavingMachine: Drop {
     fn has_report(&self) -> bool
         ensures { OfEach stands self.now (λ st a m. IsTrue result ↔ HasNext m.out) };
 
-    /// Takes the first message that waits to be sent to the coordinator: its counts, its section, or that it wants a snapshot; `None`
-    /// exactly where none waits.
+    /// Takes the first message that waits to be sent to the coordinator: its counts, its section,
+    /// or that it wants a snapshot; `None` exactly where none waits.
     fn report_take(&mut self) -> Option<Message>
-        ensures taken { IfSome result (λ m. OfEach stands self.old (IsReporting stands m self.new)) }
+        ensures taken { IfSome result (λ m.
+            OfEach stands self.old (IsReporting stands m self.new)) }
         ensures none { IfNone result (OfEach stands self.old (λ st a m. m.out ≡ [])) }
         ensures unchanged { IfNone result (StandsStill stands self.old self.new) };
 

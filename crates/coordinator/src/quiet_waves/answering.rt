@@ -22,7 +22,13 @@ pub struct Sums {
 impl Sums {
     /// Nobody of so many machines has answered.
     fn of_none(machines: u32) -> Sums
-        ensures { result ≡ record { missing = machines; restless = machines; sent = 0; received = 0; updates = 0 } }
+        ensures { result ≡ record {
+          missing = machines;
+          restless = machines;
+          sent = 0;
+          received = 0;
+          updates = 0;
+        } }
     {
         Sums {
             missing: machines,

@@ -53,7 +53,8 @@ impl Waves {
         self.wave.sums().missing == 0
     }
 
-    /// Whether machine `m` has not answered this wave yet, or the next one where each machine has answered this one.
+    /// Whether machine `m` has not answered this wave yet, or the next one where each machine has
+    /// answered this one.
     pub fn awaits(&self, m: MachineNo) -> bool
         ensures { (result ≡ true) ↔ MayAnswer self.now m.0 }
     {

@@ -8,9 +8,9 @@ use std::collections::VecDeque;
 use std::marker::Model;
 use wire::wire_msgs::Section;
 
-/// What a machine keeps for snapshots: which ones it knows, what it saved for the newest of them, and its updates that no section of
-/// it has yet, those made before their vertex was marked apart from those made behind that. The lists keep their room from one
-/// snapshot to the next.
+/// What a machine keeps for snapshots: which ones it knows, what it saved for the newest of them,
+/// and its updates that no section of it has yet, those made before their vertex was marked apart
+/// from those made behind that. The lists keep their room from one snapshot to the next.
 #[derive(Drop)]
 pub struct SnapPart {
     known: u32,
@@ -44,12 +44,17 @@ impl Model for SnapPart {
       room = record {
         vertices = p.vertices.cap - length p.vertices.items;
         edges = p.edges.cap - length p.edges.items;
-        entries = min (p.before.cap - (length p.before.items + length p.behind.items)) (p.behind.cap - length p.behind.items);
+        entries = min (p.before.cap - (length p.before.items + length p.behind.items))
+            (p.behind.cap - length p.behind.items);
       };
     } };
 
-    // How many updates are outside is counted, and all that is behind the marks has its room before the next ones.
-    ghost invariant = { λ p. (p.outside ≡ sum_by (λ n. n) p.unsure.items + length p.before.items + length p.behind.items) × (length p.before.items + length p.behind.items ≤ p.before.cap) };
+    // How many updates are outside is counted, and all that is behind the marks has its room before
+    // the next ones.
+    ghost invariant = { λ p.
+        (p.outside ≡ sum_by (λ n.
+        n) p.unsure.items + length p.before.items + length p.behind.items) ×
+        (length p.before.items + length p.behind.items ≤ p.before.cap) };
 }
 
 impl SnapPart {
@@ -165,7 +170,8 @@ impl SnapPart {
         self.vertices.push_reserved((v, value));
     }
 
-    /// A snapshot update saves the number of an edge to a neighbour that has no mark yet. It takes no memory.
+    /// A snapshot update saves the number of an edge to a neighbour that has no mark yet. It takes
+    /// no memory.
     pub fn save_edge(&mut self, e: EdgeNo, number: u64)
         requires { 0 < self.old.room.edges }
         ensures { self.new ≡ with_edge e number self.old }
@@ -184,8 +190,8 @@ impl SnapPart {
         Ok(())
     }
 
-    /// An update was made of a vertex with this mark: it is before the marks where the vertex isn't marked for the snapshot that is
-    /// known, and else behind them. It takes no memory.
+    /// An update was made of a vertex with this mark: it is before the marks where the vertex isn't
+    /// marked for the snapshot that is known, and else behind them. It takes no memory.
     pub fn log(&mut self, entry: Entry, mark: u32)
         requires room { 0 < self.old.room.entries }
         requires few { outside_of self.old + 1 < 2 ^ 64 }
@@ -200,8 +206,9 @@ impl SnapPart {
         self.outside += 1;
     }
 
-    /// The section of the snapshot that is known, once every vertex of this machine is marked: what was saved, and the updates made
-    /// before their vertex was marked, which no later section has. After want of memory all is as it was. It goes over what it tells.
+    /// The section of the snapshot that is known, once every vertex of this machine is marked: what
+    /// was saved, and the updates made before their vertex was marked, which no later section has.
+    /// After want of memory all is as it was. It goes over what it tells.
     pub fn section(&mut self, alloc: Global) -> Result<Section, NoMemory>
         ensures told { IfOk result (λ s. section_view s ≡ own_section self.old) }
         ensures sent { OnOk result (IsSameButRoom (with_section self.old) self.new) }
@@ -222,8 +229,8 @@ impl SnapPart {
         })
     }
 
-    /// This snapshot is acknowledged, which has the oldest section that wasn't known to be; how many updates that has, which are
-    /// outside no more. It takes no memory.
+    /// This snapshot is acknowledged, which has the oldest section that wasn't known to be; how
+    /// many updates that has, which are outside no more. It takes no memory.
     pub fn committed(&mut self, number: u32) -> u64
         ensures many { result ≡ first_unsure self.old.unsure }
         ensures committed { self.new ≡ with_committed number self.old }
@@ -235,8 +242,8 @@ impl SnapPart {
         many
     }
 
-    /// The last acknowledged snapshot that is known, where one behind it is to be asked for: so many updates are outside, and it
-    /// wasn't asked for yet.
+    /// The last acknowledged snapshot that is known, where one behind it is to be asked for: so
+    /// many updates are outside, and it wasn't asked for yet.
     pub fn ask(&mut self, half: u64) -> Option<u32>
         ensures behind { result ≡ asked_behind half self.old }
         ensures asked { self.new ≡ with_asking half self.old }
@@ -248,7 +255,8 @@ impl SnapPart {
         Some(self.acknowledged)
     }
 
-    /// Nothing was made since this snapshot, to which the machine has gone back. The lists keep their room.
+    /// Nothing was made since this snapshot, to which the machine has gone back. The lists keep
+    /// their room.
     pub fn reset(&mut self, base: u32)
         ensures since { self.new ≡ nothing_since base self.new.room }
         ensures room { HasKeptRoom self.old.room self.new.room }

@@ -2,7 +2,8 @@
 use gl_base::{EngineKind, Entry, Vertex};
 use placement::plans::RunPlan;
 
-/// A snapshot that was acknowledged: its number, how many entries its order has, and what the numbers of its vertices come to.
+/// A snapshot that was acknowledged: its number, how many entries its order has, and what the
+/// numbers of its vertices come to.
 #[derive(Clone, Copy)]
 pub struct SnapLine {
     pub number: u32,
@@ -15,7 +16,8 @@ pub struct SnapLine {
 /// How a run with a store ended.
 #[derive(Clone, Copy)]
 pub enum StoredEnd {
-    /// No vertex is left to be updated; and where the end is saved, the last snapshot is of the whole order.
+    /// No vertex is left to be updated; and where the end is saved, the last snapshot is of the
+    /// whole order.
     Finished,
     /// So many updates were made as the budget has, and this vertex is to be updated all the same.
     Spent(Vertex),
@@ -25,8 +27,9 @@ pub enum StoredEnd {
     DiskFault,
 }
 
-/// How a program is run with a store: how the graph is placed and the program run on it, how many updates of one machine may be outside the
-/// last snapshot that was acknowledged, how updates are kept apart, and whether a snapshot is taken of the end.
+/// How a program is run with a store: how the graph is placed and the program run on it, how many
+/// updates of one machine may be outside the last snapshot that was acknowledged, how updates are
+/// kept apart, and whether a snapshot is taken of the end.
 #[derive(Clone, Copy)]
 pub struct StoredPlan {
     pub run: RunPlan,
@@ -35,8 +38,9 @@ pub struct StoredPlan {
     pub saves_end: bool,
 }
 
-/// A run with a store: the order to which it led, the updates that failures took away, how many updates each machine made, which of the
-/// failures fired by their places, the snapshots that were acknowledged, the numbers of the vertices, and how it ended.
+/// A run with a store: the order to which it led, the updates that failures took away, how many
+/// updates each machine made, which of the failures fired by their places, the snapshots that were
+/// acknowledged, the numbers of the vertices, and how it ended.
 #[derive(Drop)]
 pub struct StoredRun {
     pub order: Vec<Entry>,

@@ -19,10 +19,12 @@ use recovery::restarts::{Restarts, missing_restarts, record_behind};
 use std::alloc::Global;
 use store::snap_journal::Journal;
 
-/// Puts the record of the snapshot that is due into the journal, with the restarts that the store lacks, and acknowledges the snapshot in the
-/// course only once the journal has it. Between them nothing can fail. `Full` comes where the snapshot may not be acknowledged since the store
-/// takes no snapshot more, or not this one. After each error the course is where it was, and after each but `DiskFault` the journal is
-/// unchanged; after `DiskFault` the store has to be opened again, and may have the snapshot, which was not acknowledged.
+/// Puts the record of the snapshot that is due into the journal, with the restarts that the store
+/// lacks, and acknowledges the snapshot in the course only once the journal has it. Between them
+/// nothing can fail. `Full` comes where the snapshot may not be acknowledged since the store takes
+/// no snapshot more, or not this one. After each error the course is where it was, and after each
+/// but `DiskFault` the journal is unchanged; after `DiskFault` the store has to be opened again,
+/// and may have the snapshot, which was not acknowledged.
 pub(crate) fn append_due<D: Disk, M: SavingMachine>(
     alloc: Global,
     course: &mut Course<M>,
@@ -33,37 +35,57 @@ pub(crate) fn append_due<D: Disk, M: SavingMachine>(
     requires first { Begins restarts.old.stored.items restarts.old.front.items }
 
     // The snapshot is acknowledged where it was added.
-    ensures acknowledged { OnOk result (HappensInCall M.stands course.old (Event.Lead Lead.Record) course.new) }
-    ensures since { OnOk result (IsSameAttempt (record course.old { since = course.new.now }) course.new) }
+    ensures acknowledged { OnOk result
+        (HappensInCall M.stands course.old (Event.Lead Lead.Record) course.new) }
+    ensures since { OnOk result
+        (IsSameAttempt (record course.old { since = course.new.now }) course.new) }
     ensures stays { OnErr result (StaysThere M.stands course.old course.new) }
     ensures same { OnErr result (IsSameAttempt course.old course.new) }
 
     // The store has each restart that the newest attempt began with.
-    ensures restarts { OnOk result ((restarts.new.front ≡ restarts.old.front) × (restarts.new.stored.items ≡ restarts.old.front.items)) }
+    ensures restarts { OnOk result ((restarts.new.front ≡ restarts.old.front) ×
+        (restarts.new.stored.items ≡ restarts.old.front.items)) }
     ensures kept { OnErr result (restarts.new ≡ restarts.old) }
 
     // What is known of the store is known of what it has now.
     ensures more { IsTrue D.told → OnOk result (HasOneMore D.past journal.old journal.new) }
-    ensures known { IsTrue D.told → OnOk result ((start : List (List ℕ)) (lost order : List Entry) (st : Setting) (o : CallOpening) →
-        KnowsJournal M.stands D.past course.old journal.old start lost restarts.old order st o → KnowsJournal M.stands D.past course.new journal.new start lost restarts.new order st o) }
-    ensures line { IsTrue D.told → IfOk result (λ line. (start : List (List ℕ)) (lost order : List Entry) (st : Setting) (o : CallOpening) →
-        KnowsJournal M.stands D.past course.old journal.old start lost restarts.old order st o → IsNewestLine st course.old.failures (snapshots_in D.past journal.new) line) }
-
-    // Whatever a crash leaves at any moment of the call is a good store, with the snapshot or without it.
-    ensures any_moment { IsTrue D.told → (start : List (List ℕ)) (lost order : List Entry) (st : Setting) (o : CallOpening) →
+    ensures known { IsTrue D.told →
+        OnOk result ((start : List (List ℕ)) (lost order : List Entry)
+        (st : Setting) (o : CallOpening) →
         KnowsJournal M.stands D.past course.old journal.old start lost restarts.old order st o →
-        LeavesOnly (D.past journal.old.disk) (D.past journal.new.disk) (IsGoodImage (shared_of st course.old.failures) journal.old.header (snapshots_in D.past journal.old)) }
+        KnowsJournal M.stands D.past course.new journal.new start lost restarts.new order st o) }
+    ensures line { IsTrue D.told →
+        IfOk result (λ line.
+        (start : List (List ℕ)) (lost order : List Entry) (st : Setting) (o : CallOpening) →
+        KnowsJournal M.stands D.past course.old journal.old start lost restarts.old order st o →
+        IsNewestLine st course.old.failures (snapshots_in D.past journal.new) line) }
+
+    // Whatever a crash leaves at any moment of the call is a good store, with the snapshot or
+    // without it.
+    ensures any_moment { IsTrue D.told →
+        (start : List (List ℕ)) (lost order : List Entry) (st : Setting) (o : CallOpening) →
+        KnowsJournal M.stands D.past course.old journal.old start lost restarts.old order st o →
+        LeavesOnly (D.past journal.old.disk) (D.past journal.new.disk)
+        (IsGoodImage (shared_of st course.old.failures) journal.old.header
+        (snapshots_in D.past journal.old)) }
 
     // `Full` comes only where more of the store was needed.
-    ensures needed { IsTrue D.told → (start : List (List ℕ)) (lost order : List Entry) (st : Setting) (o : CallOpening) →
+    ensures needed { IsTrue D.told →
+        (start : List (List ℕ)) (lost order : List Entry) (st : Setting) (o : CallOpening) →
         KnowsJournal M.stands D.past course.old journal.old start lost restarts.old order st o →
-        (k : ℕ) → IsDueOf course.old.now.coordinator (Due.Record k) → (stored long : ℕ) → IsErrOf result (AppendFault.Full stored long) → NeedsMore M.stands course.old st o }
+        (k : ℕ) → IsDueOf course.old.now.coordinator (Due.Record k) → (stored long : ℕ) →
+        IsErrOf result (AppendFault.Full stored long) → NeedsMore M.stands course.old st o }
 
-    // A record that is due is in the form of the store, where the call draws fewer tickets than each snapshot may have.
-    ensures form { IsTrue D.told → (start : List (List ℕ)) (lost order : List Entry) (st : Setting) (o : CallOpening) →
-        KnowsJournal M.stands D.past course.old journal.old start lost restarts.old order st o → o.first.left < 33554432 → IsErrOf result AppendFault.NotInForm → ⊥ }
+    // A record that is due is in the form of the store, where the call draws fewer tickets than
+    // each snapshot may have.
+    ensures form { IsTrue D.told →
+        (start : List (List ℕ)) (lost order : List Entry) (st : Setting) (o : CallOpening) →
+        KnowsJournal M.stands D.past course.old journal.old start lost restarts.old order st o →
+        o.first.left < 33554432 → IsErrOf result AppendFault.NotInForm → ⊥ }
 
-    ensures refused { IfErr result (IsWhyNotAppended M.stands course.old restarts.old journal.old journal.new (D.faults journal.old.disk) (D.faults journal.new.disk)) }
+    ensures refused { IfErr result
+        (IsWhyNotAppended M.stands course.old restarts.old journal.old journal.new
+        (D.faults journal.old.disk) (D.faults journal.new.disk)) }
     ensures header { journal.new.header ≡ journal.old.header }
     ensures counted { OnOk result (journal.new.count ≡ journal.old.count + 1) }
     ensures short { OnOk result (journal.new.length ≤ 2 ^ 30) }
@@ -82,8 +104,8 @@ pub(crate) fn append_due<D: Disk, M: SavingMachine>(
     Ok(line)
 }
 
-/// The record of the snapshot that is due, with the restarts that the store lacks. It acknowledges nothing. `NotNow` comes exactly where the
-/// snapshot may not be acknowledged.
+/// The record of the snapshot that is due, with the restarts that the store lacks. It acknowledges
+/// nothing. `NotNow` comes exactly where the snapshot may not be acknowledged.
 fn due_record<M: SavingMachine>(
     alloc: Global,
     course: &mut Course<M>,
@@ -93,7 +115,8 @@ fn due_record<M: SavingMachine>(
     ensures made { IfOk result (IsDueWith M.stands course.old restarts.now) }
     ensures ready { IfOk result (λ made. IsReadyToAcknowledge course.new.now made.number) }
     ensures due { OnOk result (CanHappenInCall M.stands course.old (Event.Lead Lead.Record)) }
-    ensures not_now { IsErrOf result Refused.NotNow → CanNotHappenInCall M.stands course.old (Event.Lead Lead.Record) }
+    ensures not_now { IsErrOf result Refused.NotNow →
+        CanNotHappenInCall M.stands course.old (Event.Lead Lead.Record) }
     ensures stays { StaysThere M.stands course.old course.new }
     ensures same { IsSameAttempt course.old course.new }
 {

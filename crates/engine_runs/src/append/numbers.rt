@@ -8,8 +8,8 @@ use gl_base::{EdgeNo, Entry, NoMemory, Record, SavedPart, Vertex};
 use graph_text::sync_folds::Fold;
 use std::alloc::Global;
 
-/// What the numbers of the vertices of a record come to, in a graph of so many: each vertex counts once, with the number that is saved last,
-/// and with 0 where it has none.
+/// What the numbers of the vertices of a record come to, in a graph of so many: each vertex counts
+/// once, with the number that is saved last, and with 0 where it has none.
 pub(crate) fn fold_of(alloc: Global, n: u32, made: &Record) -> Result<Fold, NoMemory>
     ensures { IfOk result (IsFoldOf n made.now) }
 {
@@ -23,7 +23,9 @@ pub(crate) fn fold_of(alloc: Global, n: u32, made: &Record) -> Result<Fold, NoMe
 /// Puts each number in the place of its vertex, where there is one.
 fn put_numbers(values: &mut [u64], saved: &[(Vertex, u64)])
     ensures length { length values.new ≡ length values.old }
-    ensures each { (v : ℕ) → v < length values.old → slice_index values.new v ≡ saved_or (slice_index values.old v) (map vertex_pair saved.now) v }
+    ensures each { (v : ℕ) → v < length values.old →
+        slice_index values.new v ≡ saved_or (slice_index values.old v)
+        (map vertex_pair saved.now) v }
 {
     for pair in saved {
         put_number(values, pair.0, pair.1);
@@ -33,7 +35,8 @@ fn put_numbers(values: &mut [u64], saved: &[(Vertex, u64)])
 /// Puts a number in the place of a vertex, where there is one.
 fn put_number(values: &mut [u64], vertex: Vertex, number: u64)
     ensures length { length values.new ≡ length values.old }
-    ensures each { (v : ℕ) → v < length values.old → slice_index values.new v ≡ (if vertex.0 == v then number else slice_index values.old v) }
+    ensures each { (v : ℕ) → v < length values.old →
+        slice_index values.new v ≡ (if vertex.0 == v then number else slice_index values.old v) }
 {
     let place = vertex.0 as usize;
     if place < values.len() {

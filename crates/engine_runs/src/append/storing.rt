@@ -17,7 +17,8 @@ use std::alloc::Global;
 use store::snap_journal::{Journal, JournalFault};
 use store::store_format::{Header, is_record};
 
-/// Puts a record into a journal, where it is in the form of the store; from then on the store has the restarts of the newest attempt.
+/// Puts a record into a journal, where it is in the form of the store; from then on the store has
+/// the restarts of the newest attempt.
 pub(crate) fn store_record<D: Disk>(
     alloc: Global,
     journal: &mut Journal<D>,
@@ -25,15 +26,24 @@ pub(crate) fn store_record<D: Disk>(
     made: &Record,
 ) -> Result<SnapLine, AppendFault>
     requires { journal.old.failed ≡ false }
-    ensures stored { OnOk result (HasStored (IsTrue D.told) D.past journal.old journal.new made.now) }
+    ensures stored { OnOk result
+        (HasStored (IsTrue D.told) D.past journal.old journal.new made.now) }
     ensures number { IfOk result (λ line. line.number ≡ made.now.number) }
-    ensures entries { IsTrue D.told → IfOk result (λ line. line.entries ≡ length (stored_order (snapshots_in D.past journal.new))) }
+    ensures entries { IsTrue D.told →
+        IfOk result (λ line.
+        line.entries ≡ length (stored_order (snapshots_in D.past journal.new))) }
     ensures fold { IfOk result (λ line. IsFoldOf journal.old.header.n made.now (fold_in line)) }
-    ensures restarts { OnOk result ((restarts.new.front ≡ restarts.old.front) × (restarts.new.stored.items ≡ restarts.old.front.items)) }
+    ensures restarts { OnOk result ((restarts.new.front ≡ restarts.old.front) ×
+        (restarts.new.stored.items ≡ restarts.old.front.items)) }
     ensures kept { OnErr result (restarts.new ≡ restarts.old) }
-    ensures any_moment { IsTrue D.told → LeavesOnly (D.past journal.old.disk) (D.past journal.new.disk) (IsWithRecord journal.old.header journal.old.count (snapshots_in D.past journal.old) made.now) }
+    ensures any_moment { IsTrue D.told →
+        LeavesOnly (D.past journal.old.disk) (D.past journal.new.disk)
+        (IsWithRecord journal.old.header journal.old.count
+        (snapshots_in D.past journal.old) made.now) }
     ensures short { OnOk result (journal.new.length ≤ 2 ^ 30) }
-    ensures refused { IfErr result (IsWhyNotStored journal.old journal.new (D.faults journal.old.disk) (D.faults journal.new.disk) made.now) }
+    ensures refused { IfErr result
+        (IsWhyNotStored journal.old journal.new (D.faults journal.old.disk)
+        (D.faults journal.new.disk) made.now) }
     ensures fits { NumbersFit made.now }
     ensures header { journal.new.header ≡ journal.old.header }
     ensures disk { D.same journal.old.disk journal.new.disk }
@@ -54,7 +64,8 @@ pub(crate) fn store_record<D: Disk>(
     })
 }
 
-/// What the numbers of the vertices of a record come to, where it is in the form of a store of so many snapshots.
+/// What the numbers of the vertices of a record come to, where it is in the form of a store of so
+/// many snapshots.
 fn fold_in_form(
     alloc: Global,
     header: &Header,
@@ -85,10 +96,16 @@ fn is_in_form(alloc: Global, header: &Header, stored: u32, made: &Record) -> Res
 fn put<D: Disk>(alloc: Global, journal: &mut Journal<D>, made: &Record) -> Result<(), AppendFault>
     requires well { journal.old.failed ≡ false }
     requires form { IsInForm journal.old.header journal.old.count made.now }
-    ensures stored { OnOk result (HasStored (IsTrue D.told) D.past journal.old journal.new made.now) }
-    ensures any_moment { IsTrue D.told → LeavesOnly (D.past journal.old.disk) (D.past journal.new.disk) (IsWithRecord journal.old.header journal.old.count (snapshots_in D.past journal.old) made.now) }
+    ensures stored { OnOk result
+        (HasStored (IsTrue D.told) D.past journal.old journal.new made.now) }
+    ensures any_moment { IsTrue D.told →
+        LeavesOnly (D.past journal.old.disk) (D.past journal.new.disk)
+        (IsWithRecord journal.old.header journal.old.count
+        (snapshots_in D.past journal.old) made.now) }
     ensures short { OnOk result (journal.new.length ≤ 2 ^ 30) }
-    ensures refused { IfErr result (IsWhyNotPut journal.old journal.new (D.faults journal.old.disk) (D.faults journal.new.disk) made.now) }
+    ensures refused { IfErr result
+        (IsWhyNotPut journal.old journal.new (D.faults journal.old.disk)
+        (D.faults journal.new.disk) made.now) }
     ensures header { journal.new.header ≡ journal.old.header }
     ensures disk { D.same journal.old.disk journal.new.disk }
     ensures later { D.faults journal.old.disk ≤ D.faults journal.new.disk }

@@ -5,14 +5,16 @@ ghost use Rattle.engine_runs.specs.finish.Gathered.{reached_places};
 use gl_base::{FailureAt, NoMemory};
 use std::alloc::Global;
 
-/// The places of the failures whose machines have made as many updates as they name, where `done` has how many each has made.
+/// The places of the failures whose machines have made as many updates as they name, where `done`
+/// has how many each has made.
 pub(crate) fn fired_places(
     alloc: Global,
     failures: &[FailureAt],
     done: &[u64],
 ) -> Result<Vec<u16>, NoMemory>
     requires { length failures.now ≤ 65536 }
-    ensures { IfOk result (λ fired. fired.items ≡ reached_places (λ m. slice_index_or done.now m 0) 0 failures.now) }
+    ensures { IfOk result (λ fired.
+        fired.items ≡ reached_places (λ m. slice_index_or done.now m 0) 0 failures.now) }
 {
     let mut fired = Vec::new(alloc);
     for place in 0..failures.len() {

@@ -15,8 +15,9 @@ use placed_machines::engine_savers::EngineSaver;
 use std::alloc::Global;
 use update_api::Program;
 
-/// The lists of a call: the order to which it led, the updates that failures took away, how many updates each machine made, which of the
-/// failures fired by their places, and the numbers of the vertices.
+/// The lists of a call: the order to which it led, the updates that failures took away, how many
+/// updates each machine made, which of the failures fired by their places, and the numbers of the
+/// vertices.
 #[derive(Drop)]
 pub(crate) struct CallLists {
     pub order: Vec<Entry>,
@@ -46,8 +47,9 @@ impl From<NoMemory> for GatherFault {
     }
 }
 
-/// Gathers the lists of a call from its machines, where `front` is the order with which the newest attempt began, and `lost` what failures
-/// took away. `OtherGraph` comes only where a store of another graph was opened, whose disk doesn't tell what it holds.
+/// Gathers the lists of a call from its machines, where `front` is the order with which the newest
+/// attempt began, and `lost` what failures took away. `OtherGraph` comes only where a store of
+/// another graph was opened, whose disk doesn't tell what it holds.
 pub(crate) fn gather_call<P: Program>(
     alloc: Global,
     graph: &Graph,
@@ -61,9 +63,14 @@ pub(crate) fn gather_call<P: Program>(
     requires failures { course.now.failures ≡ failures.now }
     requires few { length failures.now ≤ 65536 }
 
-    ensures gathered { IfOk result (λ lists. (st : Setting) (o : CallOpening) (events : List Event) (c : Cluster) → IsCourseNow (IsEngineSaverOf P.meaning) course.now st o events c →
-        GathersFrom graph.now places.now front.items lost.items st o events c → IsGathered course.now.failures st o events c lists) }
-    ensures other { IsErrOf result GatherFault.OtherGraph → (st : Setting) (o : CallOpening) (events : List Event) (c : Cluster) → IsCourseNow (IsEngineSaverOf P.meaning) course.now st o events c →
+    ensures gathered { IfOk result (λ lists.
+        (st : Setting) (o : CallOpening) (events : List Event) (c : Cluster) →
+        IsCourseNow (IsEngineSaverOf P.meaning) course.now st o events c →
+        GathersFrom graph.now places.now front.items lost.items st o events c →
+        IsGathered course.now.failures st o events c lists) }
+    ensures other { IsErrOf result GatherFault.OtherGraph →
+        (st : Setting) (o : CallOpening) (events : List Event) (c : Cluster) →
+        IsCourseNow (IsEngineSaverOf P.meaning) course.now st o events c →
         GathersFrom graph.now places.now front.items lost.items st o events c → ⊥ }
 
     // Told or not.
@@ -94,7 +101,8 @@ pub(crate) fn gather_call<P: Program>(
     })
 }
 
-/// How many updates each machine made, the places of the failures that fired, and the numbers of the vertices.
+/// How many updates each machine made, the places of the failures that fired, and the numbers of
+/// the vertices.
 fn counts_of<P: Program>(
     alloc: Global,
     graph: &Graph,
@@ -104,12 +112,18 @@ fn counts_of<P: Program>(
 ) -> Result<(Vec<u64>, Vec<u16>, Vec<u64>), NoMemory>
     requires places { ArePlacesOf graph.now (length course.now.now.machines.items) places.now }
     requires few { length failures.now ≤ 65536 }
-    ensures many { IfOk result (λ counts. length counts.0.items ≡ length course.now.now.machines.items) }
-    ensures made { IfOk result (λ counts. (a : ℕ) → a < length course.now.now.machines.items → InEachCourse (IsEngineSaverOf P.meaning) course.now (λ st o events c. slice_index_or counts.0.items a 0 ≡ completed (c.machine a))) }
-    ensures fired { IfOk result (λ counts. counts.1.items ≡ reached_places (λ m. slice_index_or counts.0.items m 0) 0 failures.now) }
+    ensures many { IfOk result (λ counts.
+        length counts.0.items ≡ length course.now.now.machines.items) }
+    ensures made { IfOk result (λ counts. (a : ℕ) → a < length course.now.now.machines.items →
+        InEachCourse (IsEngineSaverOf P.meaning) course.now (λ st o events c.
+        slice_index_or counts.0.items a 0 ≡ completed (c.machine a))) }
+    ensures fired { IfOk result (λ counts.
+        counts.1.items ≡ reached_places (λ m. slice_index_or counts.0.items m 0) 0 failures.now) }
     ensures count { IfOk result (λ counts. length counts.2.items ≡ size graph.now) }
-    ensures numbers { IfOk result (λ counts. (v : ℕ) → v < size graph.now → InEachCourse (IsEngineSaverOf P.meaning) course.now (λ st o events c.
-        v < size st.graph → st.owner v ≡ placed_owner places.now.of.items places.now.owner.items v → slice_index counts.2.items v ≡ ((c.machine (st.owner v)).part.datum v).value)) }
+    ensures numbers { IfOk result (λ counts. (v : ℕ) → v < size graph.now →
+        InEachCourse (IsEngineSaverOf P.meaning) course.now (λ st o events c.
+        v < size st.graph → st.owner v ≡ placed_owner places.now.of.items places.now.owner.items v →
+        slice_index counts.2.items v ≡ ((c.machine (st.owner v)).part.datum v).value)) }
 {
     let done = course.all_completed(alloc)?;
     let fired = fired_places(alloc, failures, &done)?;

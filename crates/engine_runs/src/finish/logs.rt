@@ -8,7 +8,8 @@ use cluster_step::trace::{Course, SavingMachine};
 use gl_base::{Entry, MachineNo, NoMemory};
 use std::alloc::Global;
 
-/// The order with which the newest attempt began, and behind it the updates that all machines have made in it, by ticket.
+/// The order with which the newest attempt began, and behind it the updates that all machines have
+/// made in it, by ticket.
 pub(crate) fn order_behind<M: SavingMachine>(
     alloc: Global,
     course: &Course<M>,
@@ -27,7 +28,9 @@ pub(crate) fn merged_logs<M: SavingMachine>(
     alloc: Global,
     course: &Course<M>,
 ) -> Result<Vec<Entry>, NoMemory>
-    ensures { IfOk result (λ merged. InEachCourse M.stands course.now (λ st o events c. IsMerge (all_logged (machine_logs st.machines c)) merged.items)) }
+    ensures { IfOk result (λ merged.
+        InEachCourse M.stands course.now (λ st o events c.
+        IsMerge (all_logged (machine_logs st.machines c)) merged.items)) }
 {
     let mut merged = all_logs(alloc, course)?;
     merged.sort_unstable_by_key(|entry| ticket(*entry));
@@ -36,7 +39,9 @@ pub(crate) fn merged_logs<M: SavingMachine>(
 
 /// The logs of all machines, one behind the other.
 fn all_logs<M: SavingMachine>(alloc: Global, course: &Course<M>) -> Result<Vec<Entry>, NoMemory>
-    ensures { IfOk result (λ all. InEachCourse M.stands course.now (λ st o events c. all.items ≡ all_logged (machine_logs st.machines c))) }
+    ensures { IfOk result (λ all.
+        InEachCourse M.stands course.now (λ st o events c.
+        all.items ≡ all_logged (machine_logs st.machines c))) }
 {
     let mut all = Vec::new(alloc);
     for m in 0..course.machines() {

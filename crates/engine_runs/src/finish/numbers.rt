@@ -21,8 +21,10 @@ pub(crate) fn vertex_numbers<P: Program>(
 ) -> Result<Vec<u64>, NoMemory>
     requires { ArePlacesOf graph.now (length course.now.now.machines.items) places.now }
     ensures count { IfOk result (λ numbers. length numbers.items ≡ size graph.now) }
-    ensures each { IfOk result (λ numbers. (v : ℕ) → v < size graph.now → InEachCourse (IsEngineSaverOf P.meaning) course.now (λ st o events c.
-        v < size st.graph → st.owner v ≡ placed_owner places.now.of.items places.now.owner.items v → slice_index numbers.items v ≡ ((c.machine (st.owner v)).part.datum v).value)) }
+    ensures each { IfOk result (λ numbers. (v : ℕ) → v < size graph.now →
+        InEachCourse (IsEngineSaverOf P.meaning) course.now (λ st o events c.
+        v < size st.graph → st.owner v ≡ placed_owner places.now.of.items places.now.owner.items v →
+        slice_index numbers.items v ≡ ((c.machine (st.owner v)).part.datum v).value)) }
 {
     let mut numbers = Vec::with_capacity(alloc, graph.n() as usize)?;
     for v in 0..graph.n() {
@@ -41,7 +43,9 @@ fn number_of<P: Program>(
     requires places { ArePlacesOf graph.now (length course.now.now.machines.items) places.now }
     requires inside { v.0 < size graph.now }
     ensures { InEachCourse (IsEngineSaverOf P.meaning) course.now (λ st o events c.
-        v.0 < size st.graph → st.owner v.0 ≡ placed_owner places.now.of.items places.now.owner.items v.0 → result ≡ ((c.machine (st.owner v.0)).part.datum v.0).value) }
+        v.0 < size st.graph →
+        st.owner v.0 ≡ placed_owner places.now.of.items places.now.owner.items v.0 →
+        result ≡ ((c.machine (st.owner v.0)).part.datum v.0).value) }
 {
     let atom = places.of[v.0 as usize];
     let owner = places.owner[atom.0 as usize];

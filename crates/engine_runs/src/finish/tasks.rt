@@ -11,7 +11,9 @@ use update_api::Program;
 
 /// A vertex that is a task of the machine that owns it, and vertex 0 where no machine has a task.
 pub fn task_left<P: Program>(course: &Course<EngineSaver<P>>) -> Vertex
-    ensures { HasFlaggedTask (IsEngineSaverOf P.meaning) course.now → InEachCourse (IsEngineSaverOf P.meaning) course.now (λ st o events c. IsTaskIn st c result.0) }
+    ensures { HasFlaggedTask (IsEngineSaverOf P.meaning) course.now →
+        InEachCourse (IsEngineSaverOf P.meaning) course.now (λ st o events c.
+        IsTaskIn st c result.0) }
 {
     match first_task(course) {
         Some(v) => v,
@@ -21,8 +23,11 @@ pub fn task_left<P: Program>(course: &Course<EngineSaver<P>>) -> Vertex
 
 /// The task of the first machine that has one.
 fn first_task<P: Program>(course: &Course<EngineSaver<P>>) -> Option<Vertex>
-    ensures some { IfSome result (λ v. InEachCourse (IsEngineSaverOf P.meaning) course.now (λ st o events c. IsTaskIn st c v.0)) }
-    ensures none { IfNone result ((a : ℕ) → a < length course.now.now.machines.items → InEachCourse (IsEngineSaverOf P.meaning) course.now (λ st o events c. (u : ℕ) → (c.machine a).part.task u ≡ false)) }
+    ensures some { IfSome result (λ v.
+        InEachCourse (IsEngineSaverOf P.meaning) course.now (λ st o events c. IsTaskIn st c v.0)) }
+    ensures none { IfNone result ((a : ℕ) → a < length course.now.now.machines.items →
+        InEachCourse (IsEngineSaverOf P.meaning) course.now (λ st o events c. (u : ℕ) →
+        (c.machine a).part.task u ≡ false)) }
 {
     for m in 0..course.machines() {
         if let Some(v) = task_of(course.machine(MachineNo(m as u16))) {
@@ -34,9 +39,13 @@ fn first_task<P: Program>(course: &Course<EngineSaver<P>>) -> Option<Vertex>
 
 /// A vertex that is a task of the machine; `None` exactly where none is.
 fn task_of<P: Program>(saver: &EngineSaver<P>) -> Option<Vertex>
-    ensures some { IfSome result (λ v. OfEach (IsEngineSaverOf P.meaning) saver.now (λ st a m. m.part.task v.0 ≡ true)) }
-    ensures own { IfSome result (λ v. OfEach (IsEngineSaverOf P.meaning) saver.now (λ st a m. (v.0 < size st.graph) × (st.owner v.0 ≡ a))) }
-    ensures none { IfNone result (OfEach (IsEngineSaverOf P.meaning) saver.now (λ st a m. (u : ℕ) → m.part.task u ≡ false)) }
+    ensures some { IfSome result (λ v.
+        OfEach (IsEngineSaverOf P.meaning) saver.now (λ st a m. m.part.task v.0 ≡ true)) }
+    ensures own { IfSome result (λ v.
+        OfEach (IsEngineSaverOf P.meaning) saver.now (λ st a m. (v.0 < size st.graph) ×
+        (st.owner v.0 ≡ a))) }
+    ensures none { IfNone result (OfEach (IsEngineSaverOf P.meaning) saver.now (λ st a m. (u : ℕ) →
+        m.part.task u ≡ false)) }
 {
     let core = core_of(saver);
     let place = core.numbers.tasks.some_task()?;

@@ -5,11 +5,15 @@ ghost use Rattle.engine_runs.specs.rollback.Failing.{HaveFailedSince, InEachCour
 use cluster_step::trace::{Course, Event, Local, SavingMachine};
 use gl_base::{MachineNo, NoMemory, Refused};
 
-/// Each machine that has reached the count of a failure fails, where it hasn't yet. For want of memory some may not have: call it again.
+/// Each machine that has reached the count of a failure fails, where it hasn't yet. For want of
+/// memory some may not have: call it again.
 pub fn fail_reached<M: SavingMachine>(course: &mut Course<M>) -> Result<(), NoMemory>
     ensures same { IsSameAttempt course.old course.new }
-    ensures failed { OnOk result (InEachCourse M.stands course.old (HaveFailedSince M.stands course.new (λ a. a < length course.old.now.machines.items))) }
-    ensures wanting { OnErr result (InEachCourse M.stands course.old (HaveFailedSince M.stands course.new (λ a. ⊥))) }
+    ensures failed { OnOk result
+        (InEachCourse M.stands course.old (HaveFailedSince M.stands course.new (λ a.
+        a < length course.old.now.machines.items))) }
+    ensures wanting { OnErr result
+        (InEachCourse M.stands course.old (HaveFailedSince M.stands course.new (λ a. ⊥))) }
 {
     for m in 0..course.machines() {
         fail_where_reached(course, MachineNo(m as u16))?;
@@ -24,8 +28,10 @@ fn fail_where_reached<M: SavingMachine>(
 ) -> Result<(), NoMemory>
     requires { m.0 < length course.old.now.machines.items }
     ensures same { IsSameAttempt course.old course.new }
-    ensures failed { OnOk result (InEachCourse M.stands course.old (HaveFailedSince M.stands course.new (λ a. a ≡ m.0))) }
-    ensures wanting { OnErr result (InEachCourse M.stands course.old (HaveFailedSince M.stands course.new (λ a. ⊥))) }
+    ensures failed { OnOk result
+        (InEachCourse M.stands course.old (HaveFailedSince M.stands course.new (λ a. a ≡ m.0))) }
+    ensures wanting { OnErr result
+        (InEachCourse M.stands course.old (HaveFailedSince M.stands course.new (λ a. ⊥))) }
 {
     if !course.has_reached(m) || course.has_failed(m) {
         return Ok(());

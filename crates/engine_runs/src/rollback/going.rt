@@ -20,12 +20,14 @@ use std::alloc::Global;
 use store::snap_journal::{Journal, JournalFault};
 use update_api::Program;
 
-/// All machines go back after failures: each that has reached the count of a failure fails, and the next attempt begins from the store's last
-/// snapshot, with the restarts behind its order that the store lacks and one for each failure. What that takes away goes behind `lost`, and
+/// All machines go back after failures: each that has reached the count of a failure fails, and the
+/// next attempt begins from the store's last snapshot, with the restarts behind its order that the
+/// store lacks and one for each failure. What that takes away goes behind `lost`, and
 /// `restarts` has the restarts of the order that the next attempt begins with. That order is the answer.
 ///
 /// `Full` comes where the store has no place for these restarts. After an error the next attempt hasn't begun: machines may have failed,
-/// and `lost` and `restarts` are as they were. After `NoMemory` call it again, and after `DiskFault` open the store again.
+/// and `lost` and `restarts` are as they were. After `NoMemory` call it again, and after
+/// `DiskFault` open the store again.
 pub fn go_back<D: Disk, P: Program>(
     alloc: Global,
     course: &mut Course<EngineSaver<P>>,
@@ -40,31 +42,49 @@ pub fn go_back<D: Disk, P: Program>(
     requires header { IsHeaderOf graph.now journal.old.header }
     requires first { Begins restarts.old.stored.items restarts.old.front.items }
 
-    // Of a disk that tells what it holds: where the store has kept up with the run from an opening, in which a machine has reached the count of
-    // a failure, it has with the run as it goes on.
-    ensures back { IsTrue D.told → course.old.now.stopped ≡ false → (start : List (List ℕ)) (order : List Entry) (st : Setting) (o : CallOpening) → IsRunAt graph.now (P.meaning program) places.now st →
-        (known : IsKnownCourse (IsEngineSaverOf P.meaning) course.old journal.old.header start (snapshots_in D.past journal.old) lost.old.items restarts.old.stored.items restarts.old.front.items order st o) →
+    // Of a disk that tells what it holds: where the store has kept up with the run from an opening,
+    // in which a machine has reached the count of a failure, it has with the run as it goes on.
+    ensures back { IsTrue D.told → course.old.now.stopped ≡ false →
+        (start : List (List ℕ)) (order : List Entry) (st : Setting) (o : CallOpening) →
+        IsRunAt graph.now (P.meaning program) places.now st →
+        (known : IsKnownCourse (IsEngineSaverOf P.meaning) course.old journal.old.header start
+        (snapshots_in D.past journal.old) lost.old.items restarts.old.stored.items
+        restarts.old.front.items order st o) →
         HasReachedSome course.old st known.was.cluster →
-        IfOk result (λ order. IsKnownCourse (IsEngineSaverOf P.meaning) course.new journal.old.header start (snapshots_in D.past journal.old) lost.new.items restarts.new.stored.items restarts.new.front.items order.items st o) }
+        IfOk result (λ order.
+        IsKnownCourse (IsEngineSaverOf P.meaning) course.new journal.old.header start
+        (snapshots_in D.past journal.old) lost.new.items restarts.new.stored.items
+        restarts.new.front.items order.items st o) }
 
     // Whatever the disk holds.
     ensures since { OnOk result (course.new.since ≡ course.new.now) }
     ensures runs { OnOk result (course.new.now.stopped ≡ false) }
-    ensures call { (course.new.start ≡ course.old.start) × (course.new.failures ≡ course.old.failures) × (length course.new.now.machines.items ≡ length course.old.now.machines.items) }
+    ensures call { (course.new.start ≡ course.old.start) ×
+        (course.new.failures ≡ course.old.failures) ×
+        (length course.new.now.machines.items ≡ length course.old.now.machines.items) }
     ensures first { Begins restarts.new.stored.items restarts.new.front.items }
     ensures stored { restarts.new.stored ≡ restarts.old.stored }
     ensures lost { Begins lost.old.items lost.new.items }
 
-    ensures refused { IfErr result (IsWhyNotBack (IsTrue D.told) (InEachCourse (IsEngineSaverOf P.meaning) course.new (λ st o events c. 2 ^ 32 ≤ c.coordinator.store_end + 16 * failures_in st c))
-        journal.old.failed journal.new.failed (D.faults journal.old.disk) (D.faults journal.new.disk)) }
+    ensures refused { IfErr result
+        (IsWhyNotBack (IsTrue D.told)
+        (InEachCourse (IsEngineSaverOf P.meaning) course.new (λ st o events c.
+        2 ^ 32 ≤ c.coordinator.store_end + 16 * failures_in st c))
+        journal.old.failed journal.new.failed (D.faults journal.old.disk)
+        (D.faults journal.new.disk)) }
     ensures attempt { OnErr result (IsSameAttempt course.old course.new) }
-    ensures failed { OnErr result (InEachCourse (IsEngineSaverOf P.meaning) course.old (HaveFailedSince (IsEngineSaverOf P.meaning) course.new (λ a. ⊥))) }
+    ensures failed { OnErr result
+        (InEachCourse (IsEngineSaverOf P.meaning) course.old
+        (HaveFailedSince (IsEngineSaverOf P.meaning) course.new (λ a. ⊥))) }
     ensures unlost { OnErr result ((lost.new ≡ lost.old) × (restarts.new ≡ restarts.old)) }
 
     // The journal is as it is where its last snapshot is read.
     ensures well { OnOk result ((journal.old.failed ≡ false) × (journal.new.failed ≡ false)) }
     ensures past { IsTrue D.told → D.past journal.new.disk ≡ D.past journal.old.disk }
-    ensures kept { journal.new ≡ record journal.old { disk = journal.new.disk; failed = journal.new.failed } }
+    ensures kept { journal.new ≡ record journal.old {
+      disk = journal.new.disk;
+      failed = journal.new.failed;
+    } }
     ensures same { D.same journal.old.disk journal.new.disk }
     ensures later { D.faults journal.old.disk ≤ D.faults journal.new.disk }
 {

@@ -11,13 +11,16 @@ use cluster_step::trace::{Course, SavingMachine};
 use gl_base::{Entry, NoMemory};
 use std::alloc::Global;
 
-/// The updates of the attempt that an order lacks, by ticket: where all go back to that order, these are taken away.
+/// The updates of the attempt that an order lacks, by ticket: where all go back to that order,
+/// these are taken away.
 pub(crate) fn taken_away<M: SavingMachine>(
     alloc: Global,
     course: &Course<M>,
     order: &[Entry],
 ) -> Result<Vec<Entry>, NoMemory>
-    ensures { IfOk result (λ gone. InEachCourse M.stands course.now (λ st o events c. (to : BaseView) → to.order ≡ order.now → GoesBackTo (newest_setting st o events) c to →
+    ensures { IfOk result (λ gone.
+        InEachCourse M.stands course.now (λ st o events c. (to : BaseView) → to.order ≡ order.now →
+        GoesBackTo (newest_setting st o events) c to →
         TakesAway (newest_setting st o events) c to gone.items)) }
 {
     let merged = merged_logs(alloc, course)?;

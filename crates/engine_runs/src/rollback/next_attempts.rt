@@ -29,8 +29,8 @@ use std::alloc::Global;
 use store::snap_journal::{Journal, JournalFault};
 use update_api::Program;
 
-/// What the next attempt begins with: its machines and what its coordinator knows of the store, its order and the restarts of that, and the
-/// updates that the call has lost then.
+/// What the next attempt begins with: its machines and what its coordinator knows of the store, its
+/// order and the restarts of that, and the updates that the call has lost then.
 #[derive(Drop)]
 pub(crate) struct NextAttempt<P: Program> {
     pub(crate) machines: Vec<EngineSaver<P>>,
@@ -54,20 +54,38 @@ pub(crate) fn next_attempt<D: Disk, P: Program>(
     requires places { ArePlacesOf graph.now (length course.now.now.machines.items) places.now }
     requires header { IsHeaderOf graph.now journal.old.header }
     requires first { Begins restarts.now.stored.items restarts.now.front.items }
-    ensures start { IfOk result (λ next. (st : Setting) × (base : BaseView) × (before : Cluster) × StartsSaving (IsEngineSaverOf P.meaning) next.machines.items places.now.run.engine (store_view next.store) course.now.now.next course.now.now.left st base before) }
-    ensures many { IfOk result (λ next. length next.machines.items ≡ length course.now.now.machines.items) }
+    ensures start { IfOk result (λ next. (st : Setting) × (base : BaseView) × (before : Cluster) ×
+        StartsSaving (IsEngineSaverOf P.meaning) next.machines.items places.now.run.engine
+        (store_view next.store) course.now.now.next course.now.now.left st base before) }
+    ensures many { IfOk result (λ next.
+        length next.machines.items ≡ length course.now.now.machines.items) }
     ensures newest { IfOk result (λ next. next.store.newest + 1 < 2 ^ 32) }
     ensures short { IfOk result (λ next. next.store.length < 2 ^ 32) }
     ensures first { IfOk result (λ next. Begins restarts.now.stored.items next.front.items) }
     ensures lost { IfOk result (λ next. Begins lost.now next.lost.items) }
-    ensures back { IsTrue D.told → (start : List (List ℕ)) (order : List Entry) (st : Setting) (o : CallOpening) → IsRunAt graph.now (P.meaning program) places.now st →
-        (known : IsKnownCourse (IsEngineSaverOf P.meaning) course.now journal.old.header start (snapshots_in D.past journal.old) lost.now restarts.now.stored.items restarts.now.front.items order st o) → HasFailures course.now st known.was.cluster →
-        IfOk result (λ next. GoesBackSo P.meaning course.now next.machines.items places.now.run.engine (store_view next.store) next.order.items lost.now next.lost.items restarts.now.front.items next.front.items st o known.was.events known.was.cluster) }
-    ensures refused { IfErr result (IsWhyNotBack (IsTrue D.told) (InEachCourse (IsEngineSaverOf P.meaning) course.now (λ st o events c. 2 ^ 32 ≤ c.coordinator.store_end + 16 * failures_in st c))
-        journal.old.failed journal.new.failed (D.faults journal.old.disk) (D.faults journal.new.disk)) }
-    ensures well { IfOk result (λ next. (journal.old.failed ≡ false) × (journal.new.failed ≡ false)) }
+    ensures back { IsTrue D.told →
+        (start : List (List ℕ)) (order : List Entry) (st : Setting) (o : CallOpening) →
+        IsRunAt graph.now (P.meaning program) places.now st →
+        (known : IsKnownCourse (IsEngineSaverOf P.meaning) course.now journal.old.header start
+        (snapshots_in D.past journal.old) lost.now restarts.now.stored.items
+        restarts.now.front.items order st o) → HasFailures course.now st known.was.cluster →
+        IfOk result (λ next.
+        GoesBackSo P.meaning course.now next.machines.items places.now.run.engine
+        (store_view next.store) next.order.items lost.now next.lost.items restarts.now.front.items
+        next.front.items st o known.was.events known.was.cluster) }
+    ensures refused { IfErr result
+        (IsWhyNotBack (IsTrue D.told)
+        (InEachCourse (IsEngineSaverOf P.meaning) course.now (λ st o events c.
+        2 ^ 32 ≤ c.coordinator.store_end + 16 * failures_in st c))
+        journal.old.failed journal.new.failed (D.faults journal.old.disk)
+        (D.faults journal.new.disk)) }
+    ensures well { IfOk result (λ next. (journal.old.failed ≡ false) ×
+        (journal.new.failed ≡ false)) }
     ensures past { IsTrue D.told → D.past journal.new.disk ≡ D.past journal.old.disk }
-    ensures kept { journal.new ≡ record journal.old { disk = journal.new.disk; failed = journal.new.failed } }
+    ensures kept { journal.new ≡ record journal.old {
+      disk = journal.new.disk;
+      failed = journal.new.failed;
+    } }
     ensures same { D.same journal.old.disk journal.new.disk }
     ensures later { D.faults journal.old.disk ≤ D.faults journal.new.disk }
 {
@@ -115,12 +133,21 @@ fn base_with<D: Disk, P: Program>(
     requires { IsHeaderOf graph.now journal.old.header }
     ensures numbers { IfOk result (IsBaseFor graph.now) }
     ensures number { IfOk result (λ base. base.number + 1 < 2 ^ 32) }
-    ensures base { IsTrue D.told → (shared : Shared) → shared.graph ≡ graph.now → shared.program ≡ P.meaning program.now → IsGoodStore shared journal.old.header (snapshots_in D.past journal.old) →
-        IfOk result (IsBaseBehind shared journal.old.header (snapshots_in D.past journal.old) missing.now) }
-    ensures refused { IfErr result (IsWhyNoLast (IsTrue D.told) journal.old.failed journal.new.failed (D.faults journal.old.disk) (D.faults journal.new.disk)) }
-    ensures well { IfOk result (λ base. (journal.old.failed ≡ false) × (journal.new.failed ≡ false)) }
+    ensures base { IsTrue D.told → (shared : Shared) → shared.graph ≡ graph.now →
+        shared.program ≡ P.meaning program.now →
+        IsGoodStore shared journal.old.header (snapshots_in D.past journal.old) →
+        IfOk result (IsBaseBehind shared journal.old.header
+        (snapshots_in D.past journal.old) missing.now) }
+    ensures refused { IfErr result
+        (IsWhyNoLast (IsTrue D.told) journal.old.failed journal.new.failed
+        (D.faults journal.old.disk) (D.faults journal.new.disk)) }
+    ensures well { IfOk result (λ base. (journal.old.failed ≡ false) ×
+        (journal.new.failed ≡ false)) }
     ensures past { IsTrue D.told → D.past journal.new.disk ≡ D.past journal.old.disk }
-    ensures kept { journal.new ≡ record journal.old { disk = journal.new.disk; failed = journal.new.failed } }
+    ensures kept { journal.new ≡ record journal.old {
+      disk = journal.new.disk;
+      failed = journal.new.failed;
+    } }
     ensures same { D.same journal.old.disk journal.new.disk }
     ensures later { D.faults journal.old.disk ≤ D.faults journal.new.disk }
 {
@@ -145,16 +172,27 @@ pub(crate) fn attempt_from<P: Program>(
     requires places { ArePlacesOf graph.now (length course.now.now.machines.items) places.now }
     requires base { IsBaseFor graph.now base }
     requires graph { IsDataGraph graph.now }
-    ensures lost { IfOk result (λ next. (gone : List Entry) × (next.lost.items ≡ lost.now ++ gone) × InEachCourse (IsEngineSaverOf P.meaning) course.now (λ st o events c. (to : BaseView) → to.order ≡ base.order.items →
-        GoesBackTo (newest_setting st o events) c to → TakesAway (newest_setting st o events) c to gone)) }
-    ensures front { IfOk result (λ next. next.front.items ≡ restarts.now.stored.items ++ missing.now) }
+    ensures lost { IfOk result (λ next. (gone : List Entry) × (next.lost.items ≡ lost.now ++ gone) ×
+        InEachCourse (IsEngineSaverOf P.meaning) course.now (λ st o events c. (to : BaseView) →
+        to.order ≡ base.order.items →
+        GoesBackTo (newest_setting st o events) c to →
+        TakesAway (newest_setting st o events) c to gone)) }
+    ensures front { IfOk result (λ next.
+        next.front.items ≡ restarts.now.stored.items ++ missing.now) }
     ensures order { IfOk result (λ next. next.order.items ≡ base.order.items) }
     ensures store { IfOk result (λ next. next.store ≡ store) }
-    ensures many { IfOk result (λ next. length next.machines.items ≡ length course.now.now.machines.items) }
-    ensures stand { IfOk result (λ next. InEachCourse (IsEngineSaverOf P.meaning) course.now (λ st o events c. (to : BaseView) → IsRunAt graph.now (P.meaning program) places.now (newest_setting st o events) → IsBaseOf (newest_setting st o events) base to →
+    ensures many { IfOk result (λ next.
+        length next.machines.items ≡ length course.now.now.machines.items) }
+    ensures stand { IfOk result (λ next.
+        InEachCourse (IsEngineSaverOf P.meaning) course.now (λ st o events c. (to : BaseView) →
+        IsRunAt graph.now (P.meaning program) places.now (newest_setting st o events) →
+        IsBaseOf (newest_setting st o events) base to →
         AreSaversOf P.meaning (newest_setting st o events) to c next.machines.items)) }
-    ensures start { IfOk result (λ next. (store : StoreView) → store.vertices ≡ size graph.now → store.edges ≡ length graph.now.edges → store.newest ≡ base.number →
-        (st : Setting) × (to : BaseView) × (before : Cluster) × StartsSaving (IsEngineSaverOf P.meaning) next.machines.items places.now.run.engine store course.now.now.next course.now.now.left st to before) }
+    ensures start { IfOk result (λ next. (store : StoreView) → store.vertices ≡ size graph.now →
+        store.edges ≡ length graph.now.edges → store.newest ≡ base.number →
+        (st : Setting) × (to : BaseView) × (before : Cluster) ×
+        StartsSaving (IsEngineSaverOf P.meaning) next.machines.items places.now.run.engine store
+        course.now.now.next course.now.now.left st to before) }
 {
     let Ok(lost) = lost_behind(alloc, course, lost, &base.order) else {
         drop(base);
@@ -180,15 +218,18 @@ pub(crate) fn attempt_from<P: Program>(
     })
 }
 
-/// The updates that the call has lost where all go back to this order: those that it had lost before, and behind them what that takes away.
+/// The updates that the call has lost where all go back to this order: those that it had lost
+/// before, and behind them what that takes away.
 fn lost_behind<M: SavingMachine>(
     alloc: Global,
     course: &Course<M>,
     lost: &[Entry],
     order: &[Entry],
 ) -> Result<Vec<Entry>, NoMemory>
-    ensures { IfOk result (λ all. (gone : List Entry) × (all.items ≡ lost.now ++ gone) × InEachCourse M.stands course.now (λ st o events c. (to : BaseView) → to.order ≡ order.now →
-        GoesBackTo (newest_setting st o events) c to → TakesAway (newest_setting st o events) c to gone)) }
+    ensures { IfOk result (λ all. (gone : List Entry) × (all.items ≡ lost.now ++ gone) ×
+        InEachCourse M.stands course.now (λ st o events c. (to : BaseView) → to.order ≡ order.now →
+        GoesBackTo (newest_setting st o events) c to →
+        TakesAway (newest_setting st o events) c to gone)) }
 {
     let gone = taken_away(alloc, course, order)?;
     let lost = list_behind(alloc, lost, &gone)?;
@@ -207,11 +248,18 @@ fn machines_from<P: Program>(
     requires places { ArePlacesOf graph.now (length course.now.now.machines.items) places.now }
     requires base { IsBaseFor graph.now base.now }
     requires graph { IsDataGraph graph.now }
-    ensures many { IfOk result (λ machines. length machines.items ≡ length course.now.now.machines.items) }
-    ensures stand { IfOk result (λ machines. InEachCourse (IsEngineSaverOf P.meaning) course.now (λ st o events c. (to : BaseView) → IsRunAt graph.now (P.meaning program) places.now (newest_setting st o events) → IsBaseOf (newest_setting st o events) base.now to →
+    ensures many { IfOk result (λ machines.
+        length machines.items ≡ length course.now.now.machines.items) }
+    ensures stand { IfOk result (λ machines.
+        InEachCourse (IsEngineSaverOf P.meaning) course.now (λ st o events c. (to : BaseView) →
+        IsRunAt graph.now (P.meaning program) places.now (newest_setting st o events) →
+        IsBaseOf (newest_setting st o events) base.now to →
         AreSaversOf P.meaning (newest_setting st o events) to c machines.items)) }
-    ensures start { IfOk result (λ machines. (store : StoreView) → store.vertices ≡ size graph.now → store.edges ≡ length graph.now.edges → store.newest ≡ base.now.number →
-        (st : Setting) × (to : BaseView) × (before : Cluster) × StartsSaving (IsEngineSaverOf P.meaning) machines.items places.now.run.engine store course.now.now.next course.now.now.left st to before) }
+    ensures start { IfOk result (λ machines. (store : StoreView) → store.vertices ≡ size graph.now →
+        store.edges ≡ length graph.now.edges → store.newest ≡ base.now.number →
+        (st : Setting) × (to : BaseView) × (before : Cluster) ×
+        StartsSaving (IsEngineSaverOf P.meaning) machines.items places.now.run.engine store
+        course.now.now.next course.now.now.left st to before) }
 {
     let serials = serials(alloc, course)?;
     let machines = placed_savers(alloc, graph, program, base, places, &serials)?;

@@ -13,7 +13,8 @@ pub(crate) fn failures_now<M: SavingMachine>(
     alloc: Global,
     course: &Course<M>,
 ) -> Result<usize, NoMemory>
-    ensures { IfOk result (λ failures. InEachCourse M.stands course.now (λ st o events c. failures ≡ failures_in st c)) }
+    ensures { IfOk result (λ failures.
+        InEachCourse M.stands course.now (λ st o events c. failures ≡ failures_in st c)) }
 {
     let flags = failed_flags(alloc, course)?;
     Ok(count_failed(&flags))
@@ -21,8 +22,11 @@ pub(crate) fn failures_now<M: SavingMachine>(
 
 /// Which machines have failed in this attempt.
 fn failed_flags<M: SavingMachine>(alloc: Global, course: &Course<M>) -> Result<Vec<bool>, NoMemory>
-    ensures many { IfOk result (λ flags. length flags.items ≡ length course.now.now.machines.items) }
-    ensures each { IfOk result (λ flags. (a : ℕ) → a < length course.now.now.machines.items → InEachCourse M.stands course.now (λ st o events c. slice_index_or flags.items a false ≡ (c.machine a).failed)) }
+    ensures many { IfOk result (λ flags.
+        length flags.items ≡ length course.now.now.machines.items) }
+    ensures each { IfOk result (λ flags. (a : ℕ) → a < length course.now.now.machines.items →
+        InEachCourse M.stands course.now (λ st o events c.
+        slice_index_or flags.items a false ≡ (c.machine a).failed)) }
 {
     let many = course.machines();
     let mut flags = Vec::with_capacity(alloc, many)?;
@@ -37,8 +41,11 @@ pub(crate) fn serials<M: SavingMachine>(
     alloc: Global,
     course: &Course<M>,
 ) -> Result<Vec<u64>, NoMemory>
-    ensures many { IfOk result (λ serials. length serials.items ≡ length course.now.now.machines.items) }
-    ensures each { IfOk result (λ serials. (a : ℕ) → a < length course.now.now.machines.items → InEachCourse M.stands course.now (λ st o events c. slice_index_or serials.items a 0 ≡ (c.machine a).part.serial)) }
+    ensures many { IfOk result (λ serials.
+        length serials.items ≡ length course.now.now.machines.items) }
+    ensures each { IfOk result (λ serials. (a : ℕ) → a < length course.now.now.machines.items →
+        InEachCourse M.stands course.now (λ st o events c.
+        slice_index_or serials.items a 0 ≡ (c.machine a).part.serial)) }
 {
     let many = course.machines();
     let mut serials = Vec::with_capacity(alloc, many)?;

@@ -13,8 +13,8 @@ const RESTART_BYTES: u64 = 16;
 /// How many bytes a coordinator can't count of a store, with the restarts that it lacks.
 const STORE_END: u64 = 4294967296;
 
-/// The store, whose newest snapshot has this number, with place for a restart for each failure. `Full` comes where that is more than a coordinator can
-/// count.
+/// The store, whose newest snapshot has this number, with place for a restart for each failure.
+/// `Full` comes where that is more than a coordinator can count.
 pub(crate) fn store_behind<M: SavingMachine>(
     course: &Course<M>,
     graph: &Graph,
@@ -25,9 +25,12 @@ pub(crate) fn store_behind<M: SavingMachine>(
     ensures vertices { IfOk result (λ store. store.vertices ≡ size graph.now) }
     ensures graph { IfOk result (λ store. IsDataGraph graph.now) }
     ensures edges { IfOk result (λ store. store.edges ≡ length graph.now.edges) }
-    ensures place { IfOk result (λ store. store.length ≡ course.now.now.coordinator.saving.store_end + 16 * failures) }
+    ensures place { IfOk result (λ store.
+        store.length ≡ course.now.now.coordinator.saving.store_end + 16 * failures) }
     ensures short { IfOk result (λ store. store.length < 2 ^ 32) }
-    ensures full { IfErr result (λ refused. (refused ≡ fault.Full newest course.now.now.coordinator.saving.store_end) × (2 ^ 32 ≤ course.now.now.coordinator.saving.store_end + 16 * failures)) }
+    ensures full { IfErr result (λ refused.
+        (refused ≡ fault.Full newest course.now.now.coordinator.saving.store_end) ×
+        (2 ^ 32 ≤ course.now.now.coordinator.saving.store_end + 16 * failures)) }
 {
     let length = course.coordinator().length();
     let needed = length.saturating_add(RESTART_BYTES.saturating_mul(failures as u64));

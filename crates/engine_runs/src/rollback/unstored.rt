@@ -28,9 +28,10 @@ const RESTART_BYTES: u64 = 16;
 /// The most bytes that a coordinator can count.
 const MOST_BYTES: u64 = 4294967295;
 
-/// All machines go back after failures: each that has reached the count of a failure fails, and the next attempt begins from the start, with
-/// the restarts of the attempt before and one for each failure. What that takes away goes behind `lost`, and `restarts` has the restarts of the
-/// order that the next attempt begins with. That order is the answer, and has nothing but restarts.
+/// All machines go back after failures: each that has reached the count of a failure fails, and the
+/// next attempt begins from the start, with the restarts of the attempt before and one for each
+/// failure. What that takes away goes behind `lost`, and `restarts` has the restarts of the order
+/// that the next attempt begins with. That order is the answer, and has nothing but restarts.
 pub(crate) fn go_back_to_start<P: Program>(
     alloc: Global,
     course: &mut Course<EngineSaver<P>>,
@@ -44,13 +45,22 @@ pub(crate) fn go_back_to_start<P: Program>(
     requires machines { length course.old.now.machines.items < 65535 }
     requires failures { length course.old.failures ≤ 65536 }
     requires stored { restarts.old.stored.items ≡ [] }
-    // In each setting of a run in which a machine has reached the count of a failure the run goes on.
-    ensures back { course.old.now.stopped ≡ false → (header : Header) (order : List Entry) (st : Setting) (o : CallOpening) → IsHeaderOf graph.now header → IsRunAt graph.now (P.meaning program) places.now st →
-        (known : IsKnownCourse (IsEngineSaverOf P.meaning) course.old header [] [] lost.old.items restarts.old.stored.items restarts.old.front.items order st o) → HasReachedSome course.old st known.was.cluster →
-        IfOk result (λ order. IsKnownCourse (IsEngineSaverOf P.meaning) course.new header [] [] lost.new.items restarts.new.stored.items restarts.new.front.items order.items st o) }
+    // In each setting of a run in which a machine has reached the count of a failure the run goes
+    // on.
+    ensures back { course.old.now.stopped ≡ false →
+        (header : Header) (order : List Entry) (st : Setting) (o : CallOpening) →
+        IsHeaderOf graph.now header → IsRunAt graph.now (P.meaning program) places.now st →
+        (known : IsKnownCourse (IsEngineSaverOf P.meaning) course.old header [] [] lost.old.items
+        restarts.old.stored.items restarts.old.front.items order st o) →
+        HasReachedSome course.old st known.was.cluster →
+        IfOk result (λ order.
+        IsKnownCourse (IsEngineSaverOf P.meaning) course.new header [] [] lost.new.items
+        restarts.new.stored.items restarts.new.front.items order.items st o) }
     ensures alone { IfOk result (λ order. AreRestartsAlone order.items) }
     ensures runs { OnOk result (course.new.now.stopped ≡ false) }
-    ensures call { (course.new.start ≡ course.old.start) × (course.new.failures ≡ course.old.failures) × (length course.new.now.machines.items ≡ length course.old.now.machines.items) }
+    ensures call { (course.new.start ≡ course.old.start) ×
+        (course.new.failures ≡ course.old.failures) ×
+        (length course.new.now.machines.items ≡ length course.old.now.machines.items) }
     ensures stored { restarts.new.stored ≡ restarts.old.stored }
 {
     fail_reached(course)?;
@@ -80,14 +90,23 @@ fn attempt_at_start<P: Program>(
     requires machines { length course.now.now.machines.items < 65535 }
     requires failures { length course.now.failures ≤ 65536 }
     requires stored { restarts.now.stored.items ≡ [] }
-    ensures start { IfOk result (λ next. (st : Setting) × (base : BaseView) × (before : Cluster) × StartsSaving (IsEngineSaverOf P.meaning) next.machines.items places.now.run.engine (store_view next.store) course.now.now.next course.now.now.left st base before) }
-    ensures many { IfOk result (λ next. length next.machines.items ≡ length course.now.now.machines.items) }
+    ensures start { IfOk result (λ next. (st : Setting) × (base : BaseView) × (before : Cluster) ×
+        StartsSaving (IsEngineSaverOf P.meaning) next.machines.items places.now.run.engine
+        (store_view next.store) course.now.now.next course.now.now.left st base before) }
+    ensures many { IfOk result (λ next.
+        length next.machines.items ≡ length course.now.now.machines.items) }
     ensures newest { IfOk result (λ next. next.store.newest + 1 < 2 ^ 32) }
     ensures short { IfOk result (λ next. next.store.length < 2 ^ 32) }
     ensures alone { IfOk result (λ next. AreRestartsAlone next.order.items) }
-    ensures back { (header : Header) (order : List Entry) (st : Setting) (o : CallOpening) → IsHeaderOf graph.now header → IsRunAt graph.now (P.meaning program) places.now st →
-        (known : IsKnownCourse (IsEngineSaverOf P.meaning) course.now header [] [] lost.now restarts.now.stored.items restarts.now.front.items order st o) → HasFailures course.now st known.was.cluster →
-        IfOk result (λ next. GoesBackSo P.meaning course.now next.machines.items places.now.run.engine (store_view next.store) next.order.items lost.now next.lost.items restarts.now.front.items next.front.items st o known.was.events known.was.cluster) }
+    ensures back { (header : Header) (order : List Entry) (st : Setting) (o : CallOpening) →
+        IsHeaderOf graph.now header → IsRunAt graph.now (P.meaning program) places.now st →
+        (known : IsKnownCourse (IsEngineSaverOf P.meaning) course.now header [] [] lost.now
+        restarts.now.stored.items restarts.now.front.items order st o) →
+        HasFailures course.now st known.was.cluster →
+        IfOk result (λ next.
+        GoesBackSo P.meaning course.now next.machines.items places.now.run.engine
+        (store_view next.store) next.order.items lost.now next.lost.items restarts.now.front.items
+        next.front.items st o known.was.events known.was.cluster) }
 {
     let failures = failures_now(alloc, course)?;
     let missing = missing_restarts(
@@ -122,7 +141,8 @@ fn start_with<P: Program>(
     ensures numbers { IfOk result (IsBaseFor graph.now) }
     ensures number { IfOk result (λ base. base.number ≡ 0) }
     ensures order { IfOk result (λ base. base.order.items ≡ missing.now) }
-    ensures base { (header : Header) (shared : Shared) → shared.graph ≡ graph.now → shared.program ≡ P.meaning program.now → IsHeaderOf graph.now header →
+    ensures base { (header : Header) (shared : Shared) → shared.graph ≡ graph.now →
+        shared.program ≡ P.meaning program.now → IsHeaderOf graph.now header →
         IfOk result (IsBaseBehind shared header [] missing.now) }
 {
     let base = start_base(alloc, graph, program)?;
@@ -130,13 +150,15 @@ fn start_with<P: Program>(
     Ok(base)
 }
 
-/// What the coordinator is told in place of a store, which it hasn't: no snapshot, and as many bytes as it counts with these failures.
+/// What the coordinator is told in place of a store, which it hasn't: no snapshot, and as many
+/// bytes as it counts with these failures.
 fn no_store<M: SavingMachine>(course: &Course<M>, graph: &Graph, failures: usize) -> Store
     ensures newest { result.newest ≡ 0 }
     ensures vertices { result.vertices ≡ size graph.now }
     ensures graph { IsDataGraph graph.now }
     ensures edges { result.edges ≡ length graph.now.edges }
-    ensures place { course.now.now.coordinator.saving.store_end + 16 * failures < 2 ^ 32 → result.length ≡ course.now.now.coordinator.saving.store_end + 16 * failures }
+    ensures place { course.now.now.coordinator.saving.store_end + 16 * failures < 2 ^ 32 →
+        result.length ≡ course.now.now.coordinator.saving.store_end + 16 * failures }
     ensures short { result.length < 2 ^ 32 }
 {
     let length = course.coordinator().length();

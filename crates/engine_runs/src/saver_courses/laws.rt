@@ -11,24 +11,41 @@ ghost use Rattle.engine_runs.specs.saver_courses.Beginning.{AreSaversOf, BaseVie
 
 use update_api::Program;
 
-/// Machines that are made for the first attempt from a good base begin the call that opens with it, resumed or not, with whichever engine.
+/// Machines that are made for the first attempt from a good base begin the call that opens with it,
+/// resumed or not, with whichever engine.
 pub fn savers_start_calls<P: Program>()
-    ensures { (engine : Engine) (st : Setting) (failures : List FailureAt) (resumed : Bool) (base : Base) (left : ℕ) (savers : List (EngineSaver P)) →
-        IsSnapSetting st → IsEngineOf engine st.engine → IsGoodBase (shared_of st failures) base → AreJobFailures st.machines failures → (resumed ≡ true) ⊎ ((resumed ≡ false) × (base.order.items ≡ [])) →
-        AreSaversOf P.meaning st (base_opened resumed base) (cluster_before st (ticket_above base.order.items) left base.length) savers →
-        StartsCall (IsEngineSaverOf P.meaning) savers engine (store_from st base) (ticket_above base.order.items) left failures st (opening_from st resumed base left) }
+    ensures { (engine : Engine) (st : Setting) (failures : List FailureAt) (resumed : Bool)
+        (base : Base) (left : ℕ) (savers : List (EngineSaver P)) →
+        IsSnapSetting st → IsEngineOf engine st.engine → IsGoodBase (shared_of st failures) base →
+        AreJobFailures st.machines failures → (resumed ≡ true) ⊎
+        ((resumed ≡ false) × (base.order.items ≡ [])) →
+        AreSaversOf P.meaning st (base_opened resumed base)
+        (cluster_before st (ticket_above base.order.items) left base.length) savers →
+        StartsCall (IsEngineSaverOf P.meaning) savers engine (store_from st base)
+        (ticket_above base.order.items) left failures st (opening_from st resumed base left) }
 {}
 
-/// Machines that are made for the base to which a course may go back go on from there, where each machine that has reached the count of a
-/// failure has failed, with whichever engine. A setting in which the call runs is one in which its newest attempt does, and its engine is
-/// the run's.
+/// Machines that are made for the base to which a course may go back go on from there, where each
+/// machine that has reached the count of a failure has failed, with whichever engine. A setting in
+/// which the call runs is one in which its newest attempt does, and its engine is the run's.
 pub fn savers_go_back<P: Program>()
-    ensures back { (engine : Engine) (old : CourseView (EngineSaver P)) (st : Setting) (o : CallOpening) (events : List Event) (c : Cluster) (base : BaseView) (store : StoreView) (savers : List (EngineSaver P)) →
-        IsCourseNow (IsEngineSaverOf P.meaning) old st o events c → IsEngineOf engine st.engine → GoesBackTo (newest_setting st o events) c base → c.stopped ≡ false →
-        ((a : ℕ) → a < st.machines → has_reached old.failures c a ≡ true → (c.machine a).failed ≡ true) → AreSaversOf P.meaning (newest_setting st o events) base c savers →
-        size st.graph ≡ store.vertices → length st.graph.edges ≡ store.edges → base.number ≡ store.newest → (recovers (newest_setting st o events) base c).coordinator.store_end ≡ store.store_end →
+    ensures back { (engine : Engine) (old : CourseView (EngineSaver P)) (st : Setting)
+        (o : CallOpening) (events : List Event) (c : Cluster) (base : BaseView) (store : StoreView)
+        (savers : List (EngineSaver P)) →
+        IsCourseNow (IsEngineSaverOf P.meaning) old st o events c → IsEngineOf engine st.engine →
+        GoesBackTo (newest_setting st o events) c base → c.stopped ≡ false →
+        ((a : ℕ) → a < st.machines → has_reached old.failures c a ≡ true →
+        (c.machine a).failed ≡ true) →
+        AreSaversOf P.meaning (newest_setting st o events) base c savers →
+        size st.graph ≡ store.vertices → length st.graph.edges ≡ store.edges →
+        base.number ≡ store.newest →
+        (recovers (newest_setting st o events) base c).coordinator.store_end ≡ store.store_end →
         GoesBackWith (IsEngineSaverOf P.meaning) old savers engine store st o events c base }
-    ensures runs { (g : DataGraph) (program : Update) (owner : ℕ → ℕ) (colours : List ℕ) (run : SavingRun) (st : Setting) (o : CallOpening) (events : List Event) →
-        IsSavingRunOf g program owner colours run st → IsSavingRunOf g program owner colours run (newest_setting st o events) }
-    ensures engine { (engine : Engine) (colours : List ℕ) (st : Setting) → RunsBy engine colours st → IsEngineOf engine st.engine }
+    ensures runs { (g : DataGraph) (program : Update) (owner : ℕ →
+        ℕ) (colours : List ℕ) (run : SavingRun) (st : Setting)
+        (o : CallOpening) (events : List Event) →
+        IsSavingRunOf g program owner colours run st →
+        IsSavingRunOf g program owner colours run (newest_setting st o events) }
+    ensures engine { (engine : Engine) (colours : List ℕ) (st : Setting) →
+        RunsBy engine colours st → IsEngineOf engine st.engine }
 {}

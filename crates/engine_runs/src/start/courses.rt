@@ -17,7 +17,8 @@ use placed_machines::{Places, attempts_can_begin, placed_savers};
 use std::alloc::Global;
 use update_api::Program;
 
-/// The course of a call on machines at these places that begins with this, with so many tickets and failures.
+/// The course of a call on machines at these places that begins with this, with so many tickets and
+/// failures.
 pub(crate) fn course_of<P: Program>(
     alloc: Global,
     graph: &Graph,
@@ -33,10 +34,14 @@ pub(crate) fn course_of<P: Program>(
     requires number { opening.now.base.number + 1 < 2 ^ 32 }
     requires short { opening.now.base.length < 2 ^ 32 }
     ensures failures { IfOk result (λ course. course.failures ≡ failures.now) }
-    ensures machines { IfOk result (λ course. length course.now.machines.items ≡ places.now.run.machines) }
+    ensures machines { IfOk result (λ course.
+        length course.now.machines.items ≡ places.now.run.machines) }
     ensures runs { IfOk result (λ course. course.now.stopped ≡ false) }
-    ensures opened { IfOk result (λ course. (st : Setting) (resumed : Bool) (kept : Vec Entry Global) → IsRunAt graph.now (P.meaning program) places.now st →
-        CanOpenWith st failures.now resumed (base_with kept opening.now.base) opening.now.next budget → OpensWith P.meaning course st resumed (base_with kept opening.now.base) budget) }
+    ensures opened { IfOk result (λ course.
+        (st : Setting) (resumed : Bool) (kept : Vec Entry Global) →
+        IsRunAt graph.now (P.meaning program) places.now st →
+        CanOpenWith st failures.now resumed (base_with kept opening.now.base) opening.now.next
+        budget → OpensWith P.meaning course st resumed (base_with kept opening.now.base) budget) }
 {
     attempts_can_begin();
     let listed = Vec::from_slice(alloc, failures)?;

@@ -18,8 +18,8 @@ const RESTART_BYTES: u64 = 16;
 /// The greatest length of a store of which a coordinator can know.
 const MAX_LENGTH: u64 = 4294967295;
 
-/// The base with which the first attempt of a call begins, its first ticket, and the restarts of the order that the store has, and of the
-/// base's.
+/// The base with which the first attempt of a call begins, its first ticket, and the restarts of
+/// the order that the store has, and of the base's.
 #[derive(Drop)]
 pub(crate) struct Opening {
     pub(crate) base: Base,
@@ -27,8 +27,9 @@ pub(crate) struct Opening {
     pub(crate) restarts: Restarts,
 }
 
-/// What a call begins with that goes on from this base, of a store of so many snapshots. Where it resumes, a restart stands behind the base's
-/// order, and the store has place for that. `Full` comes where that would be longer than a store of which a coordinator can know.
+/// What a call begins with that goes on from this base, of a store of so many snapshots. Where it
+/// resumes, a restart stands behind the base's order, and the store has place for that. `Full`
+/// comes where that would be longer than a store of which a coordinator can know.
 pub(crate) fn opening_of(
     alloc: Global,
     base: Base,
@@ -63,7 +64,8 @@ pub(crate) fn opening_of(
 /// Looks whether a store of so many bytes has place for a restart, where the call resumes.
 fn check_room(stored: u32, length: u64, resumed: bool) -> Result<(), JournalFault>
     ensures room { OnOk result (length + restart_room resumed < 2 ^ 32) }
-    ensures full { IfErr result (λ refused. (refused ≡ fault.Full stored length) × (2 ^ 32 ≤ length + restart_room resumed)) }
+    ensures full { IfErr result (λ refused. (refused ≡ fault.Full stored length) ×
+        (2 ^ 32 ≤ length + restart_room resumed)) }
 {
     let more = if resumed { RESTART_BYTES } else { 0 };
     if length > MAX_LENGTH - more {
@@ -72,7 +74,8 @@ fn check_room(stored: u32, length: u64, resumed: bool) -> Result<(), JournalFaul
     Ok(())
 }
 
-/// The base with a restart of this ticket behind its order, where the call resumes, and with place for that in the store.
+/// The base with a restart of this ticket behind its order, where the call resumes, and with place
+/// for that in the store.
 fn base_opened(base: Base, next: u64, resumed: bool) -> Result<Base, NoMemory>
     requires { base.length + restart_room resumed < 2 ^ 32 }
     ensures { IfOk result (IsBaseOpened resumed next base) }

@@ -14,12 +14,14 @@ use placed_machines::{Places, SavingRun};
 use placement::plans::{first_of, placement_of};
 use std::alloc::Global;
 
-/// How many scopes of a machine may be in flight where vertices run by colours: more than a machine takes up in one turn. A scope is in flight
-/// there only while its own update is made, or as long as its update has to wait for another attempt or a ticket.
+/// How many scopes of a machine may be in flight where vertices run by colours: more than a machine
+/// takes up in one turn. A scope is in flight there only while its own update is made, or as long
+/// as its update has to wait for another attempt or a ticket.
 const WIDE_PIPELINE: u16 = 256;
 
-/// The places that the plan gives the graph, which is cut so. A machine's order of vertices begins at the vertex that has the least number of
-/// the base, where the machine owns that. Where the plan's engine is chromatic, the graph is coloured.
+/// The places that the plan gives the graph, which is cut so. A machine's order of vertices begins
+/// at the vertex that has the least number of the base, where the machine owns that. Where the
+/// plan's engine is chromatic, the graph is coloured.
 pub(crate) fn places_of(
     alloc: Global,
     graph: &Graph,
@@ -51,8 +53,8 @@ pub(crate) fn places_of(
     })
 }
 
-/// How updates on the graph are kept apart, how many scopes of a machine may be in flight, and the colour of each vertex where they run by
-/// colours.
+/// How updates on the graph are kept apart, how many scopes of a machine may be in flight, and the
+/// colour of each vertex where they run by colours.
 fn kept_apart(
     alloc: Global,
     graph: &Graph,

@@ -19,8 +19,8 @@ use std::alloc::Global;
 use store::snap_journal::{Journal, JournalFault};
 use update_api::Program;
 
-/// A call that has started: its course, where its graph is placed, the order with which its first attempt begins, and the restarts of the
-/// store's last order and of that one.
+/// A call that has started: its course, where its graph is placed, the order with which its first
+/// attempt begins, and the restarts of the store's last order and of that one.
 #[derive(Drop)]
 pub struct Started<P: Program> {
     pub course: Course<EngineSaver<P>>,
@@ -29,10 +29,12 @@ pub struct Started<P: Program> {
     pub restarts: Restarts,
 }
 
-/// Starts a call from the last snapshot of the journal, or from the start where there is none: places the graph, which is cut so, as the plan
-/// says, makes the machines, of the engine that the plan asks for, and opens the course with the ticket behind the greatest of that order, and
-/// with as many tickets as the budget has. Where the call resumes, a restart of that ticket stands behind the order. `Full` comes where the
-/// store would have 2^32 bytes or more with that, which is far more than a journal adds up to. After `DiskFault` open the store again.
+/// Starts a call from the last snapshot of the journal, or from the start where there is none:
+/// places the graph, which is cut so, as the plan says, makes the machines, of the engine that the
+/// plan asks for, and opens the course with the ticket behind the greatest of that order, and with
+/// as many tickets as the budget has. Where the call resumes, a restart of that ticket stands
+/// behind the order. `Full` comes where the store would have 2^32 bytes or more with that, which is
+/// far more than a journal adds up to. After `DiskFault` open the store again.
 pub fn start_call<D: Disk, P: Program>(
     alloc: Global,
     graph: &Graph,
@@ -51,23 +53,39 @@ pub fn start_call<D: Disk, P: Program>(
     requires machines { journal.old.header.machines ≡ plan.run.machines }
     requires fresh { resumed ≡ false → journal.old.count ≡ 0 }
 
-    // In each setting of the run in which the store is good the call has opened from it, and the store keeps up.
-    ensures started { IsTrue D.told → IfOk result (λ started. (st : Setting) → IsRunAt graph.now (P.meaning program) started.places st →
-        IsGoodStore (shared_of st failures.now) journal.old.header (snapshots_in D.past journal.old) →
-        HasStarted P.meaning started journal.old.header (snapshots_in D.past journal.old) resumed plan.run.budget st) }
+    // In each setting of the run in which the store is good the call has opened from it, and the
+    // store keeps up.
+    ensures started { IsTrue D.told →
+        IfOk result (λ started. (st : Setting) →
+        IsRunAt graph.now (P.meaning program) started.places st →
+        IsGoodStore (shared_of st failures.now) journal.old.header
+        (snapshots_in D.past journal.old) →
+        HasStarted P.meaning started journal.old.header (snapshots_in D.past journal.old)
+        resumed plan.run.budget st) }
     // There is such a setting, with just this owner of each vertex.
-    ensures setting { IfOk result (λ started. (st : Setting) × IsRunAt graph.now (P.meaning program) started.places st × (shared_of st failures.now ≡ run_shared graph.now (P.meaning program) started.places failures.now)) }
+    ensures setting { IfOk result (λ started. (st : Setting) ×
+        IsRunAt graph.now (P.meaning program) started.places st ×
+        (shared_of st failures.now ≡ run_shared graph.now (P.meaning program)
+        started.places failures.now)) }
 
     ensures places { IfOk result (λ started. ArePlacedFor graph.now cut.now plan started.places) }
     ensures failures { IfOk result (λ started. started.course.failures ≡ failures.now) }
-    ensures machines { IfOk result (λ started. length started.course.now.machines.items ≡ plan.run.machines) }
+    ensures machines { IfOk result (λ started.
+        length started.course.now.machines.items ≡ plan.run.machines) }
     ensures runs { IfOk result (λ started. started.course.now.stopped ≡ false) }
-    ensures restarts { IfOk result (λ started. Begins started.restarts.stored.items started.restarts.front.items) }
+    ensures restarts { IfOk result (λ started.
+        Begins started.restarts.stored.items started.restarts.front.items) }
 
-    ensures refused { IfErr result (IsWhyNotStarted D.past (IsTrue D.told) (restart_room resumed) journal.old journal.new (D.faults journal.old.disk) (D.faults journal.new.disk)) }
-    ensures well { IfOk result (λ started. (journal.old.failed ≡ false) × (journal.new.failed ≡ false)) }
+    ensures refused { IfErr result
+        (IsWhyNotStarted D.past (IsTrue D.told) (restart_room resumed) journal.old journal.new
+        (D.faults journal.old.disk) (D.faults journal.new.disk)) }
+    ensures well { IfOk result (λ started. (journal.old.failed ≡ false) ×
+        (journal.new.failed ≡ false)) }
     ensures past { IsTrue D.told → D.past journal.new.disk ≡ D.past journal.old.disk }
-    ensures kept { journal.new ≡ record journal.old { disk = journal.new.disk; failed = journal.new.failed } }
+    ensures kept { journal.new ≡ record journal.old {
+      disk = journal.new.disk;
+      failed = journal.new.failed;
+    } }
     ensures same { D.same journal.old.disk journal.new.disk }
     ensures later { D.faults journal.old.disk ≤ D.faults journal.new.disk }
 {

@@ -5,7 +5,8 @@ ghost use Rattle.cluster_laws.specs.cluster_core.Replays.{ticket_of};
 
 use gl_base::Entry;
 
-/// One above the greatest ticket of an order, and 0 where it has no entry; but at most the greatest number that there is.
+/// One above the greatest ticket of an order, and 0 where it has no entry; but at most the greatest
+/// number that there is.
 pub(crate) fn next_ticket(order: &[Entry]) -> u64
     ensures { result ≡ min (ticket_above order.now) (2 ^ 64 - 1) }
 {

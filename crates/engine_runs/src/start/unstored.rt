@@ -18,8 +18,9 @@ use recovery::start_base;
 use std::alloc::Global;
 use update_api::Program;
 
-/// Starts a call from the start, without a store: places the graph, which is cut so, as the plan says, makes the machines, of the engine that
-/// the plan asks for, and opens the course with the ticket 0, and with as many tickets as the budget has.
+/// Starts a call from the start, without a store: places the graph, which is cut so, as the plan
+/// says, makes the machines, of the engine that the plan asks for, and opens the course with the
+/// ticket 0, and with as many tickets as the budget has.
 pub(crate) fn start_unstored<P: Program>(
     alloc: Global,
     graph: &Graph,
@@ -34,12 +35,14 @@ pub(crate) fn start_unstored<P: Program>(
     requires failures { AreJobFailures plan.run.machines failures.now }
     // It has started as from a store for these machines and this graph that has no snapshot.
     ensures started { IfOk result (λ started. (header : Header) (st : Setting) →
-        IsHeaderOf graph.now header → header.machines ≡ plan.run.machines → IsRunAt graph.now (P.meaning program) started.places st →
+        IsHeaderOf graph.now header → header.machines ≡ plan.run.machines →
+        IsRunAt graph.now (P.meaning program) started.places st →
         HasStarted P.meaning started header [] false plan.run.budget st) }
     ensures graph { IfOk result (λ started. IsDataGraph graph.now) }
     ensures places { IfOk result (λ started. ArePlacedFor graph.now cut.now plan started.places) }
     ensures failures { IfOk result (λ started. started.course.failures ≡ failures.now) }
-    ensures machines { IfOk result (λ started. length started.course.now.machines.items ≡ plan.run.machines) }
+    ensures machines { IfOk result (λ started.
+        length started.course.now.machines.items ≡ plan.run.machines) }
     ensures runs { IfOk result (λ started. started.course.now.stopped ≡ false) }
     ensures stored { IfOk result (λ started. started.restarts.stored.items ≡ []) }
     ensures order { IfOk result (λ started. started.order.items ≡ []) }
@@ -71,13 +74,15 @@ pub(crate) fn start_unstored<P: Program>(
     })
 }
 
-/// What a call begins with at the start: the numbers with which the program begins, the ticket 0, and no restarts.
+/// What a call begins with at the start: the numbers with which the program begins, the ticket 0,
+/// and no restarts.
 fn opening_at_start<P: Program>(
     alloc: Global,
     graph: &Graph,
     program: &P,
 ) -> Result<Opening, NoMemory>
-    ensures base { IfOk result (λ opening. IsStartBase graph.now (P.meaning program.now) opening.base) }
+    ensures base { IfOk result (λ opening.
+        IsStartBase graph.now (P.meaning program.now) opening.base) }
     ensures fits { IfOk result (λ opening. IsBaseFor graph.now opening.base) }
     ensures next { IfOk result (λ opening. opening.next ≡ 0) }
     ensures stored { IfOk result (λ opening. opening.restarts.stored.items ≡ []) }

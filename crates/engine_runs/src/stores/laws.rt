@@ -1,4 +1,5 @@
-//! Laws of a store beside the course of a call. Each is the contract of a function that does nothing.
+//! Laws of a store beside the course of a call. Each is the contract of a function that does
+//! nothing.
 ghost use Rattle.std.specs.Prelude.{List, [], length, ℕ, ◌++◌, ◌∷◌, ◌≡◌};
 ghost use Rattle.gl_base.specs.declared.entries.Entry.{Entry};
 ghost use Rattle.gl_base.specs.declared.snapshots.Record.{Record};
@@ -15,30 +16,48 @@ ghost use Rattle.engine_runs.specs.stores.Stores.{CallOpening, CourseGoesOn, Cou
 use cluster_step::trace::SavingMachine;
 use recovery::records::stores_keep_up;
 
-/// A good store keeps up as a call opens; it still does behind events that acknowledge nothing and begin no attempt; and where the record that
-/// is due is added and then acknowledged, it does so with that record too. Where all go back it stays as it is, and what
-/// was lost grows by what that takes away.
+/// A good store keeps up as a call opens; it still does behind events that acknowledge nothing and
+/// begin no attempt; and where the record that is due is added and then acknowledged, it does so
+/// with that record too. Where all go back it stays as it is, and what was lost grows by what that
+/// takes away.
 pub fn stores_go_with_courses<M: SavingMachine>()
-    ensures opens { (v : CourseView M) (header : Header) (start : List (List ℕ)) (st : Setting) (o : CallOpening) →
-        IsCourseNow M.stands v st o [] (first_cluster st o) → IsGoodStore (shared_of st v.failures) header start → IsStoredCourse M.stands v header start start [] st o }
-    ensures passes { (old new : CourseView M) (header : Header) (start bodies : List (List ℕ)) (lost : List Entry) (st : Setting) (o : CallOpening) →
-        IsRememberedAt old new → CourseGoesOn M.stands (as_since new) new → IsStoredCourse M.stands old header start bodies lost st o → IsStoredCourse M.stands new header start bodies lost st o }
-    ensures grows { (old new : CourseView M) (header : Header) (start bodies : List (List ℕ)) (lost : List Entry) (made : Record) (st : Setting) (o : CallOpening) →
-        new.failures ≡ old.failures → HappensInCall M.stands old (event.Lead lead.Record) new → (was : IsStoredCourse M.stands old header start bodies lost st o) → o.kept ≡ stored_order start →
-        IsRecordBehind st (stored_order bodies) was.cluster.base.order (snapshot_due was.cluster.coordinator) made →
+    ensures opens { (v : CourseView M) (header : Header) (start : List (List ℕ))
+        (st : Setting) (o : CallOpening) →
+        IsCourseNow M.stands v st o [] (first_cluster st o) →
+        IsGoodStore (shared_of st v.failures) header start →
+        IsStoredCourse M.stands v header start start [] st o }
+    ensures passes { (old new : CourseView M) (header : Header) (start bodies : List (List ℕ))
+        (lost : List Entry) (st : Setting) (o : CallOpening) →
+        IsRememberedAt old new → CourseGoesOn M.stands (as_since new) new →
+        IsStoredCourse M.stands old header start bodies lost st o →
+        IsStoredCourse M.stands new header start bodies lost st o }
+    ensures grows { (old new : CourseView M) (header : Header) (start bodies : List (List ℕ))
+        (lost : List Entry) (made : Record) (st : Setting) (o : CallOpening) →
+        new.failures ≡ old.failures → HappensInCall M.stands old (event.Lead lead.Record) new →
+        (was : IsStoredCourse M.stands old header start bodies lost st o) →
+        o.kept ≡ stored_order start →
+        IsRecordBehind st (stored_order bodies) was.cluster.base.order
+        (snapshot_due was.cluster.coordinator) made →
         RecordFits made → NumbersFit made → length made.sections.items ≡ header.machines →
         IsStoredCourse M.stands new header start (bodies ++ body_bytes made ∷ []) lost st o }
-    ensures returns { (old new : CourseView M) (header : Header) (start bodies : List (List ℕ)) (lost gone : List Entry) (machines : List M) (engine : Engine) (store : StoreView) (st : Setting) (o : CallOpening) (base : BaseView) →
-        new.failures ≡ old.failures → HasGoneBack M.stands old machines engine store new → (was : IsStoredCourse M.stands old header start bodies lost st o) →
-        GoesBackWith M.stands old machines engine store st o was.events was.cluster base → TakesAway (newest_setting st o was.events) was.cluster base gone →
+    ensures returns { (old new : CourseView M) (header : Header) (start bodies : List (List ℕ))
+        (lost gone : List Entry) (machines : List M) (engine : Engine) (store : StoreView)
+        (st : Setting) (o : CallOpening) (base : BaseView) →
+        new.failures ≡ old.failures → HasGoneBack M.stands old machines engine store new →
+        (was : IsStoredCourse M.stands old header start bodies lost st o) →
+        GoesBackWith M.stands old machines engine store st o was.events was.cluster base →
+        TakesAway (newest_setting st o was.events) was.cluster base gone →
         IsStoredCourse M.stands new header start bodies (lost ++ gone) st o }
 {
     stores_keep_up();
 }
 
-/// What is known of a store is still known behind events that acknowledge nothing and begin no attempt.
+/// What is known of a store is still known behind events that acknowledge nothing and begin no
+/// attempt.
 pub fn stores_stay_known<M: SavingMachine>()
-    ensures { (old new : CourseView M) (header : Header) (start bodies : List (List ℕ)) (lost stored front order : List Entry) (st : Setting) (o : CallOpening) →
-        IsRememberedAt old new → CourseGoesOn M.stands (as_since new) new → IsKnownCourse M.stands old header start bodies lost stored front order st o →
+    ensures { (old new : CourseView M) (header : Header) (start bodies : List (List ℕ))
+        (lost stored front order : List Entry) (st : Setting) (o : CallOpening) →
+        IsRememberedAt old new → CourseGoesOn M.stands (as_since new) new →
+        IsKnownCourse M.stands old header start bodies lost stored front order st o →
         IsKnownCourse M.stands new header start bodies lost stored front order st o }
 {}

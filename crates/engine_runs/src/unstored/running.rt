@@ -24,11 +24,13 @@ use std::sync::Wait;
 use store::snap_journal::JournalFault;
 use update_api::Program;
 
-/// A window in which no machine asks for a snapshot: half of it is the greatest budget that a job may have.
+/// A window in which no machine asks for a snapshot: half of it is the greatest budget that a job
+/// may have.
 const WIDEST_WINDOW: u32 = 33_554_432;
 
-/// Runs a program on the graph, which is cut so, from the start to the end of the run, without a store. Machines fail as the failures order,
-/// and all go back to the start, since no snapshot is taken. The run ends finished or at its budget, and is refused for want of memory alone.
+/// Runs a program on the graph, which is cut so, from the start to the end of the run, without a
+/// store. Machines fail as the failures order, and all go back to the start, since no snapshot is
+/// taken. The run ends finished or at its budget, and is refused for want of memory alone.
 pub fn run_unstored<R: Wait, P: Program>(
     rt: &R,
     alloc: Global,
@@ -46,19 +48,29 @@ pub fn run_unstored<R: Wait, P: Program>(
     requires places { length failures.now ≤ 65536 }
 
     // What the run is, by the owners that the placement gives.
-    ensures run { IfOk result (λ run. (owner : ℕ → ℕ) → IsPlacement graph.now cut.now plan.machines owner →
-        IsUnstoredRun (owned_shared graph.now (P.meaning program) owner failures.now) plan.machines plan.budget run) }
+    ensures run { IfOk result (λ run. (owner : ℕ → ℕ) →
+        IsPlacement graph.now cut.now plan.machines owner →
+        IsUnstoredRun (owned_shared graph.now (P.meaning program) owner failures.now)
+        plan.machines plan.budget run) }
 
     // It is a run of machines of this engine, with the plan's pipeline.
     ensures engine { IfOk result (λ run. (window : ℕ) ×
-        IsRunBy graph.now cut.now (P.meaning program) (record { run = plan; window = window; engine = engine; saves_end = false }) failures.now (lists_of run)) }
+        IsRunBy graph.now cut.now (P.meaning program) (record {
+          run = plan;
+          window = window;
+          engine = engine;
+          saves_end = false;
+        }) failures.now (lists_of run)) }
 
     // Its budget is not spent, where each attempt has as many tickets as it may need.
-    ensures enough { IfOk result (λ run. (bound : ℕ) → BoundsSteps graph.now (P.meaning program) bound →
-        (1 + length failures.now) * bound ≤ plan.budget → (left : Vertex) → run.end ≡ ending.Spent left → ⊥) }
+    ensures enough { IfOk result (λ run. (bound : ℕ) →
+        BoundsSteps graph.now (P.meaning program) bound →
+        (1 + length failures.now) * bound ≤ plan.budget → (left : Vertex) →
+        run.end ≡ ending.Spent left → ⊥) }
 
     // The graph is placed for it, in the one way that there is.
-    ensures placed { IfOk result (λ run. (owner : ℕ → ℕ) × IsPlacement graph.now cut.now plan.machines owner) }
+    ensures placed { IfOk result (λ run. (owner : ℕ → ℕ) ×
+        IsPlacement graph.now cut.now plan.machines owner) }
     ensures numbers { IfOk result (λ run. length run.numbers.items ≡ size graph.now) }
     ensures entries { IfOk result (λ run. All (IsEntryOf graph.now) run.order.items) }
 {
@@ -98,7 +110,8 @@ fn begin<P: Program>(
     requires places { length failures.now ≤ 65536 }
     ensures can { IfOk result (CanGoOnUnstored graph.now) }
     ensures begun { IfOk result (λ call. (header : Header) (st : Setting) →
-        IsHeaderOf graph.now header → header.machines ≡ plan.run.machines → IsRunAt graph.now (P.meaning program) call.places st →
+        IsHeaderOf graph.now header → header.machines ≡ plan.run.machines →
+        IsRunAt graph.now (P.meaning program) call.places st →
         HasBegunUnstored P.meaning call header plan.run.budget st) }
     ensures graph { IfOk result (λ call. IsDataGraph graph.now) }
     ensures places { IfOk result (λ call. ArePlacedFor graph.now cut.now plan call.places) }

@@ -23,7 +23,8 @@ pub(crate) fn play_unstored<R: Wait, P: Program>(
     call: &mut StoredCall<P>,
 ) -> Result<StoredEnd, NoMemory>
     requires { CanGoOnUnstored graph.now call.old }
-    ensures on { IfOk result (λ end. GoesOnUnstored P.meaning graph.now (P.meaning program) call.old call.new) }
+    ensures on { IfOk result (λ end.
+        GoesOnUnstored P.meaning graph.now (P.meaning program) call.old call.new) }
     ensures ends { IfOk result (EndsCallUnstored P.meaning call.new) }
 {
     for _ in rt.forever() {
@@ -34,8 +35,8 @@ pub(crate) fn play_unstored<R: Wait, P: Program>(
     unreachable!()
 }
 
-/// Goes on to the next pause. All go back to the start where a machine has reached the count of a failure. Says how the run ended, where it
-/// has.
+/// Goes on to the next pause. All go back to the start where a machine has reached the count of a
+/// failure. Says how the run ended, where it has.
 fn step<R: Wait, P: Program>(
     rt: &R,
     alloc: Global,
@@ -44,7 +45,8 @@ fn step<R: Wait, P: Program>(
     call: &mut StoredCall<P>,
 ) -> Result<Option<StoredEnd>, NoMemory>
     requires { CanGoOnUnstored graph.now call.old }
-    ensures on { IfOk result (λ end. GoesOnUnstored P.meaning graph.now (P.meaning program) call.old call.new) }
+    ensures on { IfOk result (λ end.
+        GoesOnUnstored P.meaning graph.now (P.meaning program) call.old call.new) }
     ensures ends { IfOk result (λ end. IfSome end (EndsCallUnstored P.meaning call.new)) }
 {
     match go_on(rt, call)? {
@@ -59,8 +61,10 @@ fn step<R: Wait, P: Program>(
 
 /// Goes on to the next pause.
 fn go_on<R: Wait, P: Program>(rt: &R, call: &mut StoredCall<P>) -> Result<UnsavedPause, NoMemory>
-    ensures known { (header : Header) (start bodies : List (List ℕ)) (st : Setting) (o : CallOpening) →
-        IsKnownAt P.meaning call.old.course call.old header start bodies st o → IsKnownAt P.meaning call.new.course call.new header start bodies st o }
+    ensures known { (header : Header) (start bodies : List (List ℕ))
+        (st : Setting) (o : CallOpening) →
+        IsKnownAt P.meaning call.old.course call.old header start bodies st o →
+        IsKnownAt P.meaning call.new.course call.new header start bodies st o }
     ensures pause { IfOk result (PausesUnsaved (IsEngineSaverOf P.meaning) call.new.course) }
     ensures same { call.new ≡ record call.old { course = call.new.course } }
     ensures attempt { IsSameCall call.old call.new }
@@ -80,8 +84,10 @@ fn go_back_from<P: Program>(
     call: &mut StoredCall<P>,
 ) -> Result<(), NoMemory>
     requires can { CanGoOnUnstored graph.now call.old }
-    requires reached { (m : MachineNo) × PausesUnsaved (IsEngineSaverOf P.meaning) call.old.course (UnsavedPause.Reached m) }
-    ensures { OnOk result (GoesOnUnstored P.meaning graph.now (P.meaning program) call.old call.new) }
+    requires reached { (m : MachineNo) ×
+        PausesUnsaved (IsEngineSaverOf P.meaning) call.old.course (UnsavedPause.Reached m) }
+    ensures { OnOk result
+        (GoesOnUnstored P.meaning graph.now (P.meaning program) call.old call.new) }
 {
     let order = go_back_to_start(
         alloc,

@@ -24,7 +24,8 @@ impl Model for Places {
 }
 
 impl Places {
-    /// The places of these vertices, whose numbers are below `count`. Of a vertex that stands there twice it is the last one.
+    /// The places of these vertices, whose numbers are below `count`. Of a vertex that stands there
+    /// twice it is the last one.
     pub fn new(alloc: Global, vertices: &[Vertex], count: u32) -> Result<Places, NoMemory>
         requires below { All (λ v. v.0 < count) vertices.now }
         requires few { length vertices.now ≤ count }

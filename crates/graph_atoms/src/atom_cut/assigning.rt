@@ -7,8 +7,8 @@ use gl_base::{AtomNo, NoMemory, Vertex};
 use graph_core::{Graph, growth};
 use std::alloc::Global;
 
-/// Puts each vertex into one of so many atoms. The vertex at place p of n in growth order, from the least vertex on, is in
-/// the atom p * atoms / n, rounded down.
+/// Puts each vertex into one of so many atoms. The vertex at place p of n in growth order, from the
+/// least vertex on, is in the atom p * atoms / n, rounded down.
 pub fn atoms_by_growth(alloc: Global, graph: &Graph, atoms: u16) -> Result<Vec<AtomNo>, NoMemory>
     requires { 1 ≤ atoms }
     ensures cut { IfOk result (λ of. IsGrowthCut graph.now atoms (atom_numbers of.items)) }
@@ -27,7 +27,9 @@ fn assign(order: &[Vertex], atoms: u16, of: &mut [AtomNo])
     requires few { length of.old < 2 ^ 32 }
     requires once { ListsEach (length of.old) (numbers_of order.now) }
     requires below { All (λ a. a.0 < atoms) of.old }
-    ensures place { (p : ℕ) → p < length of.old → slice_index (atom_numbers of.new) (slice_index (numbers_of order.now) p) ≡ p * atoms / length of.old }
+    ensures place { (p : ℕ) → p < length of.old →
+        slice_index (atom_numbers of.new) (slice_index (numbers_of order.now) p) ≡
+        p * atoms / length of.old }
     ensures below { All (λ a. a.0 < atoms) of.new }
 {
     for (place, vertex) in order.iter().enumerate() {

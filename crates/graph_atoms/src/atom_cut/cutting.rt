@@ -21,15 +21,17 @@ pub struct Atoms {
     pub index: Vec<u8>,
 }
 
-/// Cuts a graph into so many atoms. The vertex at place p of n in growth order, from the least vertex on, is in the atom
-/// p * atoms / n, rounded down.
+/// Cuts a graph into so many atoms. The vertex at place p of n in growth order, from the least
+/// vertex on, is in the atom p * atoms / n, rounded down.
 pub fn cut(alloc: Global, graph: &Graph, atoms: u16) -> Result<Atoms, NoMemory>
     requires some { 1 ≤ atoms }
     requires few { atoms ≤ MAX_ATOMS }
     ensures cut { IfOk result (λ made. IsGrowthCut graph.now atoms (atom_numbers made.of.items)) }
     ensures below { IfOk result (λ made. All (λ a. a.0 < atoms) made.of.items) }
-    ensures lines { IfOk result (λ made. AreAtoms graph.now (atom_numbers made.of.items) atoms made.lines.items) }
-    ensures index { IfOk result (λ made. made.index.items ≡ index_bytes graph.now (atom_numbers made.of.items) atoms) }
+    ensures lines { IfOk result (λ made.
+        AreAtoms graph.now (atom_numbers made.of.items) atoms made.lines.items) }
+    ensures index { IfOk result (λ made.
+        made.index.items ≡ index_bytes graph.now (atom_numbers made.of.items) atoms) }
 {
     let of = atoms_by_growth(alloc, graph, atoms)?;
     let lines = lines_of(alloc, graph, &of, atoms)?;
@@ -37,7 +39,8 @@ pub fn cut(alloc: Global, graph: &Graph, atoms: u16) -> Result<Atoms, NoMemory>
     Ok(Atoms { of, lines, index })
 }
 
-/// The bytes of the index of a cut into so many atoms, where `of` says in which atom each vertex is, and `lines` are theirs.
+/// The bytes of the index of a cut into so many atoms, where `of` says in which atom each vertex
+/// is, and `lines` are theirs.
 pub fn index_under(
     alloc: Global,
     graph: &Graph,
@@ -49,7 +52,8 @@ pub fn index_under(
     requires each { length of.now ≡ size graph.now }
     requires below { All (λ a. a.0 < atoms) of.now }
     requires lines { AreAtoms graph.now (atom_numbers of.now) atoms lines.now }
-    ensures { IfOk result (λ index. index.items ≡ index_bytes graph.now (atom_numbers of.now) atoms) }
+    ensures { IfOk result (λ index.
+        index.items ≡ index_bytes graph.now (atom_numbers of.now) atoms) }
 {
     let metas = metas_of(alloc, graph, of, atoms)?;
     index_of(alloc, graph, atoms, lines, &metas)

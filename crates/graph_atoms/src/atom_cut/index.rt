@@ -23,9 +23,12 @@ pub fn index_of(
     lines: &[Lines],
     metas: &[MetaEdge],
 ) -> Result<Vec<u8>, NoMemory>
-    requires lines { (a : ℕ) (d : Lines) → a < length lines.now → AreFew (slice_index_or lines.now a d) }
+    requires lines { (a : ℕ) (d : Lines) → a < length lines.now →
+        AreFew (slice_index_or lines.now a d) }
     requires few { length metas.now < 2 ^ 32 }
-    ensures { (of : List ℕ) → AreAtoms graph.now of atoms lines.now → metas.now ≡ meta_edges graph.now of atoms → IfOk result (λ index. index.items ≡ index_bytes graph.now of atoms) }
+    ensures { (of : List ℕ) → AreAtoms graph.now of atoms lines.now →
+        metas.now ≡ meta_edges graph.now of atoms →
+        IfOk result (λ index. index.items ≡ index_bytes graph.now of atoms) }
 {
     let mut index = Vec::with_capacity(alloc, 52 + 12 * lines.len() + 8 * metas.len())?;
     push_head(digest(graph), graph.directed(), atoms, &mut index)?;
@@ -34,8 +37,8 @@ pub fn index_of(
     Ok(index)
 }
 
-/// Adds `GLABINDX`, version 1, the digest of a graph, whether its edges have a direction, zero, and how many atoms there
-/// are.
+/// Adds `GLABINDX`, version 1, the digest of a graph, whether its edges have a direction, zero, and
+/// how many atoms there are.
 fn push_head(
     digest: [u8; 32],
     directed: bool,
@@ -62,7 +65,8 @@ fn kind_and_count(directed: bool, atoms: u16) -> [u8; 4]
 /// Adds how many vertices, ghosts and edges each atom has.
 fn push_counts(lines: &[Lines], index: &mut Vec<u8>) -> Result<(), NoMemory>
     requires { (a : ℕ) (d : Lines) → a < length lines.now → AreFew (slice_index_or lines.now a d) }
-    ensures { OnOk result (index.new.items ≡ index.old.items ++ flat_map (λ l. count_bytes (atom_of 0 l)) lines.now) }
+    ensures { OnOk result (index.new.items ≡ index.old.items ++ flat_map (λ l.
+        count_bytes (atom_of 0 l)) lines.now) }
 {
     for atom in lines {
         index.extend_from_slice(&count_record(atom))?;

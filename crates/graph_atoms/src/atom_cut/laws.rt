@@ -11,5 +11,6 @@ pub fn atoms_of_graphs_have_files()
 
 /// The numbers of each atom of a graph have the range of their fields, where those of atoms have.
 pub fn atoms_of_graphs_fit()
-    ensures { (g : DataGraph) (of : List ℕ) (a : ℕ) → IsDataGraph g → All (λ b. b < 2 ^ 16) of → length of ≡ size g → a < 2 ^ 16 → AtomFits (graph_atom g of a) }
+    ensures { (g : DataGraph) (of : List ℕ) (a : ℕ) → IsDataGraph g → All (λ b. b < 2 ^ 16) of →
+        length of ≡ size g → a < 2 ^ 16 → AtomFits (graph_atom g of a) }
 {}

@@ -29,7 +29,8 @@ pub fn lines_of(
     Ok(lines)
 }
 
-/// The lines of each of so many atoms without its edges, where `of` says in which atom each vertex is.
+/// The lines of each of so many atoms without its edges, where `of` says in which atom each vertex
+/// is.
 #[tactic(auto, using(crate::proofs::atom_cut::FillLemmas::vertices_from_hold))]
 pub fn vertices_of(
     alloc: Global,
@@ -39,7 +40,8 @@ pub fn vertices_of(
 ) -> Result<Vec<Lines>, NoMemory>
     requires each { length of.now ≡ size graph.now }
     requires below { All (λ a. a.0 < atoms) of.now }
-    ensures { IfOk result (λ lines. AreAtomVertices graph.now (atom_numbers of.now) atoms lines.items) }
+    ensures { IfOk result (λ lines.
+        AreAtomVertices graph.now (atom_numbers of.now) atoms lines.items) }
 {
     let mut lines = no_lines(alloc, graph, of, atoms)?;
     add_vertices(graph, of, &mut lines)?;
@@ -50,7 +52,8 @@ pub fn vertices_of(
 /// No line for each of so many atoms.
 fn no_lines(alloc: Global, graph: &Graph, of: &[AtomNo], atoms: u16) -> Result<Vec<Lines>, NoMemory>
     ensures count { IfOk result (λ lines. length lines.items ≡ atoms) }
-    ensures none { IfOk result (λ lines. AllHold graph.now (atom_numbers of.now) 0 0 0 lines.items) }
+    ensures none { IfOk result (λ lines.
+        AllHold graph.now (atom_numbers of.now) 0 0 0 lines.items) }
 {
     let mut lines = Vec::with_capacity(alloc, atoms as usize)?;
     for _ in 0..atoms {
@@ -68,7 +71,9 @@ fn fill(alloc: Global, graph: &Graph, of: &[AtomNo], lines: &mut [Lines]) -> Res
     requires each { length of.now ≡ size graph.now }
     requires below { All (λ a. a.0 < length lines.old) of.now }
     requires none { AllHold graph.now (atom_numbers of.now) 0 0 0 lines.old }
-    ensures { OnOk result (AllHold graph.now (atom_numbers of.now) (size graph.now) (size graph.now) (length graph.now.edges) lines.new) }
+    ensures { OnOk result
+        (AllHold graph.now (atom_numbers of.now) (size graph.now) (size graph.now)
+        (length graph.now.edges) lines.new) }
 {
     add_vertices(graph, of, lines)?;
     add_ghosts(alloc, graph, of, lines)?;
@@ -93,7 +98,8 @@ fn add_vertices(graph: &Graph, of: &[AtomNo], lines: &mut [Lines]) -> Result<(),
 /// Adds a vertex to an atom.
 fn add_vertex(line: VertexLine, atom: AtomNo, lines: &mut [Lines]) -> Result<(), NoMemory>
     requires { atom.0 < length lines.old }
-    ensures { OnOk result (AllGain (λ a. when (atom.0 == a) line) (λ _ _. []) (λ _. []) lines.old lines.new) }
+    ensures { OnOk result (AllGain (λ a. when (atom.0 == a) line) (λ _ _. []) (λ _.
+        []) lines.old lines.new) }
 {
     push_vertex(line, &mut lines[atom.0 as usize])
 }
@@ -116,7 +122,8 @@ fn add_ghosts(
     requires each { length of.now ≡ size graph.now }
     requires below { All (λ a. a.0 < length lines.old) of.now }
     requires vertices { AllHold graph.now (atom_numbers of.now) (size graph.now) 0 0 lines.old }
-    ensures { OnOk result (AllHold graph.now (atom_numbers of.now) (size graph.now) (size graph.now) 0 lines.new) }
+    ensures { OnOk result
+        (AllHold graph.now (atom_numbers of.now) (size graph.now) (size graph.now) 0 lines.new) }
 {
     if lines.len() <= 1 {
         return Ok(());
@@ -134,7 +141,8 @@ fn add_each_ghost(
     requires each { length of.now ≡ size graph.now }
     requires below { All (λ a. a.0 < length lines.old) of.now }
     requires vertices { AllHold graph.now (atom_numbers of.now) (size graph.now) 0 0 lines.old }
-    ensures { OnOk result (AllHold graph.now (atom_numbers of.now) (size graph.now) (size graph.now) 0 lines.new) }
+    ensures { OnOk result
+        (AllHold graph.now (atom_numbers of.now) (size graph.now) (size graph.now) 0 lines.new) }
 {
     let mut around = Vec::new(alloc);
     for v in 0..graph.n() {
@@ -159,8 +167,11 @@ fn add_around(
 ) -> Result<(), NoMemory>
     requires inside { All (λ v. v.0 < length of.now) around.now }
     requires below { All (λ a. a.0 < length lines.old) of.now }
-    requires new { (a : ℕ) (d : Lines) → a < length lines.old → ends_in line.vertex.0 (slice_index_or lines.old a d).ghosts.items ≡ false }
-    ensures { OnOk result (AllGain (λ _. []) (λ a _. when (not (line.atom.0 == a) && list_any (is_in (atom_numbers of.now) a) (numbers_of around.now)) line) (λ _. []) lines.old lines.new) }
+    requires new { (a : ℕ) (d : Lines) → a < length lines.old →
+        ends_in line.vertex.0 (slice_index_or lines.old a d).ghosts.items ≡ false }
+    ensures { OnOk result (AllGain (λ _. []) (λ a _.
+        when (not (line.atom.0 == a) && list_any (is_in (atom_numbers of.now) a)
+        (numbers_of around.now)) line) (λ _. []) lines.old lines.new) }
 {
     for vertex in around {
         add_ghost(line, of[vertex.0 as usize], lines)?;
@@ -171,7 +182,9 @@ fn add_around(
 /// Adds a ghost to an atom, where that is another and has it not yet.
 fn add_ghost(line: GhostLine, atom: AtomNo, lines: &mut [Lines]) -> Result<(), NoMemory>
     requires { atom.0 < length lines.old }
-    ensures { OnOk result (AllGain (λ _. []) (λ a old. when ((not (line.atom.0 == a) && (atom.0 == a)) && not (ends_in line.vertex.0 old.ghosts.items)) line) (λ _. []) lines.old lines.new) }
+    ensures { OnOk result (AllGain (λ _. []) (λ a old.
+        when ((not (line.atom.0 == a) && (atom.0 == a)) && not
+        (ends_in line.vertex.0 old.ghosts.items)) line) (λ _. []) lines.old lines.new) }
 {
     if atom == line.atom {
         return Ok(());
@@ -181,7 +194,9 @@ fn add_ghost(line: GhostLine, atom: AtomNo, lines: &mut [Lines]) -> Result<(), N
 
 /// Adds a ghost to the lines of an atom, where it is not the last one there.
 fn push_ghost(line: GhostLine, lines: &mut Lines) -> Result<(), NoMemory>
-    ensures { OnOk result (Gains [] (when (not (ends_in line.vertex.0 lines.old.ghosts.items)) line) [] lines.old lines.new) }
+    ensures { OnOk result
+        (Gains [] (when (not (ends_in line.vertex.0 lines.old.ghosts.items)) line)
+        [] lines.old lines.new) }
 {
     if is_last(line.vertex, &lines.ghosts) {
         return Ok(());
@@ -204,8 +219,11 @@ fn is_last(vertex: Vertex, ghosts: &[GhostLine]) -> bool
 fn add_edges(graph: &Graph, of: &[AtomNo], lines: &mut [Lines]) -> Result<(), NoMemory>
     requires each { length of.now ≡ size graph.now }
     requires below { All (λ a. a.0 < length lines.old) of.now }
-    requires ghosts { AllHold graph.now (atom_numbers of.now) (size graph.now) (size graph.now) 0 lines.old }
-    ensures { OnOk result (AllHold graph.now (atom_numbers of.now) (size graph.now) (size graph.now) (length graph.now.edges) lines.new) }
+    requires ghosts { AllHold graph.now (atom_numbers of.now) (size graph.now)
+        (size graph.now) 0 lines.old }
+    ensures { OnOk result
+        (AllHold graph.now (atom_numbers of.now) (size graph.now) (size graph.now)
+        (length graph.now.edges) lines.new) }
 {
     for e in 0..graph.m() {
         let line = graph.edge(EdgeNo(e));
@@ -219,7 +237,8 @@ fn add_edges(graph: &Graph, of: &[AtomNo], lines: &mut [Lines]) -> Result<(), No
 fn add_edge(line: EdgeLine, from: AtomNo, to: AtomNo, lines: &mut [Lines]) -> Result<(), NoMemory>
     requires from { from.0 < length lines.old }
     requires to { to.0 < length lines.old }
-    ensures { OnOk result (AllGain (λ _. []) (λ _ _. []) (λ a. when (from.0 == a || to.0 == a) line) lines.old lines.new) }
+    ensures { OnOk result (AllGain (λ _. []) (λ _ _. []) (λ a.
+        when (from.0 == a || to.0 == a) line) lines.old lines.new) }
 {
     push_edge(line, &mut lines[from.0 as usize])?;
     if to == from {

@@ -28,7 +28,8 @@ pub fn metas_of(
     requires each { length of.now ≡ size graph.now }
     requires below { All (λ a. a.0 < atoms) of.now }
     ensures graph { OnOk result (IsDataGraph graph.now) }
-    ensures metas { IfOk result (λ metas. metas.items ≡ meta_edges graph.now (atom_numbers of.now) atoms) }
+    ensures metas { IfOk result (λ metas.
+        metas.items ≡ meta_edges graph.now (atom_numbers of.now) atoms) }
 {
     let counts = counts_of(alloc, graph, of, atoms)?;
     list_metas(alloc, atoms, &counts)
@@ -40,7 +41,8 @@ fn counts_of(alloc: Global, graph: &Graph, of: &[AtomNo], atoms: u16) -> Result<
     requires each { length of.now ≡ size graph.now }
     requires below { All (λ a. a.0 < atoms) of.now }
     ensures graph { OnOk result (IsDataGraph graph.now) }
-    ensures counts { IfOk result (λ counts. AreEdgeCounts graph.now (atom_numbers of.now) atoms (length graph.now.edges) counts.items) }
+    ensures counts { IfOk result (λ counts.
+        AreEdgeCounts graph.now (atom_numbers of.now) atoms (length graph.now.edges) counts.items) }
 {
     let mut counts = vec![in alloc; 0u32; atoms as usize * atoms as usize]?;
     count_edges(graph, of, atoms, &mut counts);
@@ -54,7 +56,8 @@ fn count_edges(graph: &Graph, of: &[AtomNo], atoms: u16, counts: &mut [u32])
     requires below { All (λ a. a.0 < atoms) of.now }
     requires none { AreEdgeCounts graph.now (atom_numbers of.now) atoms 0 counts.old }
     ensures graph { IsDataGraph graph.now }
-    ensures counts { AreEdgeCounts graph.now (atom_numbers of.now) atoms (length graph.now.edges) counts.new }
+    ensures counts { AreEdgeCounts graph.now (atom_numbers of.now) atoms
+        (length graph.now.edges) counts.new }
 {
     for e in 0..graph.m() {
         let line = graph.edge(EdgeNo(e));
@@ -70,7 +73,9 @@ fn count_edge(from: AtomNo, to: AtomNo, atoms: u16, counts: &mut [u32])
     requires to { to.0 < atoms }
     requires room { length counts.old ≡ atoms * atoms }
     requires free { (i : ℕ) → slice_index counts.old i + 1 < 2 ^ 32 }
-    ensures each { (a b : ℕ) → a < b → b < atoms → count_in atoms counts.new a b ≡ count_in atoms counts.old a b + (if are_both a b from.0 to.0 then 1 else 0) }
+    ensures each { (a b : ℕ) → a < b → b < atoms →
+        count_in atoms counts.new a b ≡ count_in atoms counts.old a
+        b + (if are_both a b from.0 to.0 then 1 else 0) }
     ensures few { (i : ℕ) → slice_index counts.new i ≤ slice_index counts.old i + 1 }
 {
     if from == to {
@@ -115,7 +120,9 @@ fn list_behind(
     requires few { atoms ≤ MAX_ATOMS }
     requires inside { a < atoms }
     requires room { length counts.now ≡ atoms * atoms }
-    ensures { OnOk result (metas.new.items ≡ metas.old.items ++ metas_behind (count_in atoms counts.now) a (atoms - (a + 1))) }
+    ensures { OnOk result
+        (metas.new.items ≡ metas.old.items ++ metas_behind
+        (count_in atoms counts.now) a (atoms - (a + 1))) }
 {
     for b in a + 1..atoms {
         let place = a as usize * atoms as usize + b as usize;

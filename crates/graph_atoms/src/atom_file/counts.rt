@@ -18,7 +18,8 @@ pub struct Counts {
 
 /// Reads a file from front to back, and counts its records.
 pub fn counts_of(bytes: &[u8]) -> Result<Counts, AtomFault>
-    ensures counts { IfOk result (λ counts. AreCounts bytes.now counts.vertices counts.ghosts counts.edges) }
+    ensures counts { IfOk result (λ counts.
+        AreCounts bytes.now counts.vertices counts.ghosts counts.edges) }
     ensures none { OnOk result (atom_fault bytes.now ≡ None) }
     ensures fault { IfErr result (λ fault. atom_fault bytes.now ≡ Some fault) }
 {

@@ -38,7 +38,8 @@ impl RecordKind {
     }
 }
 
-/// Where a reader stands: at this byte, with so many records left, of which the next has at least this key.
+/// Where a reader stands: at this byte, with so many records left, of which the next has at least
+/// this key.
 #[derive(Clone, Copy)]
 pub struct Place {
     pub at: usize,
@@ -58,7 +59,8 @@ pub fn run_of(bytes: &[u8], kind: RecordKind, start: Place) -> Result<Run, AtomF
     requires { start.at ≤ length bytes.now }
     ensures run { IfOk result (λ run. IsRunBetween bytes.now kind start run.count run.end) }
     ensures rest { IfOk result (λ run. fault_from bytes.now run.end ≡ fault_from bytes.now start) }
-    ensures ended { IfOk result (λ run. 0 < run.end.left → run.end.at < length bytes.now → slice_index bytes.now run.end.at ≢ tag_of kind) }
+    ensures ended { IfOk result (λ run. 0 < run.end.left → run.end.at < length bytes.now →
+        slice_index bytes.now run.end.at ≢ tag_of kind) }
     ensures fault { IfErr result (λ fault. fault_from bytes.now start ≡ Some fault) }
 {
     let mut place = start;
@@ -76,10 +78,15 @@ fn passed(bytes: &[u8], kind: RecordKind, place: Place) -> Result<Place, AtomFau
     requires tag { slice_index bytes.now place.at ≡ tag_of kind }
     requires some { 0 < place.left }
     ensures none { IfOk result (λ _. record_fault bytes.now place.least place.at ≡ None) }
-    ensures next { IfOk result (λ end. end ≡ record { at = place.at + size_of kind; left = place.left - 1; least = record_key bytes.now place.at + 1 }) }
+    ensures next { IfOk result (λ end. end ≡ record {
+      at = place.at + size_of kind;
+      left = place.left - 1;
+      least = record_key bytes.now place.at + 1;
+    }) }
     ensures inside { IfOk result (λ end. end.at ≤ length bytes.now) }
     ensures risen { IfOk result (λ _. place.least ≤ record_key bytes.now place.at) }
-    ensures fault { IfErr result (λ fault. record_fault bytes.now place.least place.at ≡ Some fault) }
+    ensures fault { IfErr result (λ fault.
+        record_fault bytes.now place.least place.at ≡ Some fault) }
 {
     if bytes.len() - place.at < kind.size() {
         return Err(AtomFault::Torn(bytes.len() as u64));

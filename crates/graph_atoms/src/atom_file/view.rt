@@ -13,8 +13,8 @@ use gl_base::{AtomNo, EdgeLine, GhostLine, Lines, NoMemory, VertexLine};
 use std::alloc::Global;
 use std::marker::Model;
 
-/// The file of an atom. The records stay where they lie: this keeps slices of the bytes that were read, and takes no
-/// memory. Contracts see the atom.
+/// The file of an atom. The records stay where they lie: this keeps slices of the bytes that were
+/// read, and takes no memory. Contracts see the atom.
 #[derive(Drop)]
 pub struct AtomView<'a> {
     number: AtomNo,
@@ -46,12 +46,14 @@ impl<'a> Model for AtomView<'a> {
 }
 
 impl<'a> AtomView<'a> {
-    /// Reads a file from front to back. Where it is not the file of an atom, the first fault is answered.
+    /// Reads a file from front to back. Where it is not the file of an atom, the first fault is
+    /// answered.
     pub fn read(bytes: &'a [u8]) -> Result<AtomView<'a>, AtomFault>
         ensures bytes { IfOk result (λ view. bytes.now ≡ atom_bytes view) }
         ensures atom { IfOk result IsAtom }
         ensures fits { IfOk result AtomFits }
-        ensures only { (a : Atom) → IsAtom a → AtomFits a → bytes.now ≡ atom_bytes a → IsOkAnd result (λ view. view ≡ a) }
+        ensures only { (a : Atom) → IsAtom a → AtomFits a → bytes.now ≡ atom_bytes a →
+            IsOkAnd result (λ view. view ≡ a) }
         ensures none { OnOk result (atom_fault bytes.now ≡ None) }
         ensures fault { IfErr result (λ fault. atom_fault bytes.now ≡ Some fault) }
     {

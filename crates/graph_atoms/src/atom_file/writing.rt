@@ -8,8 +8,8 @@ use byteorder::{BigEndian, ByteOrder};
 use gl_base::{AtomNo, EdgeLine, GhostLine, Lines, NoMemory, VertexLine};
 use std::alloc::Global;
 
-/// The file of an atom with these lines. There are fewer than 4,294,967,296 of them, and each list rises by its vertex or
-/// edge.
+/// The file of an atom with these lines. There are fewer than 4,294,967,296 of them, and each list
+/// rises by its vertex or edge.
 pub fn write_atom(alloc: Global, atom: AtomNo, lines: &Lines) -> Result<Vec<u8>, NoMemory>
     requires { IsAtom (atom_of atom.0 lines.now) }
     ensures { IfOk result (λ file. file.items ≡ atom_bytes (atom_of atom.0 lines.now)) }

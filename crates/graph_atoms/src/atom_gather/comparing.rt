@@ -4,8 +4,8 @@ ghost use Rattle.graph_atoms.specs.atom_gather.Files.{differs_fault, differs_of}
 
 use gl_base::{AtomsFault, AtomsKind};
 
-/// Compares the bytes of a file with those that it is to have. Where one is the front of the other, they differ where the
-/// shorter one ends.
+/// Compares the bytes of a file with those that it is to have. Where one is the front of the other,
+/// they differ where the shorter one ends.
 pub fn check_same(file: u16, bytes: &[u8], wanted: &[u8]) -> Result<(), AtomsFault>
     ensures none { OnOk result (differs_fault file bytes.now wanted.now ≡ None) }
     ensures fault { IfErr result (λ fault. differs_fault file bytes.now wanted.now ≡ Some fault) }

@@ -25,27 +25,35 @@ use std::alloc::Global;
 /// Why atoms were not gathered: the first fault of their index and files, or want of memory.
 pub type AtomsReading = OrNoMemory<AtomsFault>;
 
-/// Gathers the atoms of a graph from their index and their files: answered is the atom of each vertex, and what `cut` makes
-/// under it. A missing file is one without bytes, and files past the index's number of atoms are not looked at.
+/// Gathers the atoms of a graph from their index and their files: answered is the atom of each
+/// vertex, and what `cut` makes under it. A missing file is one without bytes, and files past the
+/// index's number of atoms are not looked at.
 ///
-/// Where index and files are not those of the graph under any assignment of its vertices, the first fault is answered. It is
-/// looked for in this order: the form of the index; the form of each file, ascending; the least vertex that is not in
-/// exactly one atom, or how many vertices there are where a file adds a number that is no vertex; the first byte that is not
-/// that of the graph's atom, file by file, ascending; and the first byte that is not that of the graph's index.
+/// Where index and files are not those of the graph under any assignment of its vertices, the first
+/// fault is answered. It is looked for in this order: the form of the index; the form of each file,
+/// ascending; the least vertex that is not in exactly one atom, or how many vertices there are
+/// where a file adds a number that is no vertex; the first byte that is not that of the graph's
+/// atom, file by file, ascending; and the first byte that is not that of the graph's index.
 pub fn gathered(
     alloc: Global,
     graph: &Graph,
     index: &[u8],
     files: &[Vec<u8>],
 ) -> Result<Atoms, AtomsReading>
-    ensures assignment { IfOk result (λ made. IsAssignment graph.now (atoms_in index.now) (atom_numbers made.of.items)) }
-    ensures files { IfOk result (λ made. AreFiles graph.now (atoms_in index.now) (atom_numbers made.of.items) index.now (atom_file_at files.now)) }
-    ensures lines { IfOk result (λ made. AreAtoms graph.now (atom_numbers made.of.items) (atoms_in index.now) made.lines.items) }
+    ensures assignment { IfOk result (λ made.
+        IsAssignment graph.now (atoms_in index.now) (atom_numbers made.of.items)) }
+    ensures files { IfOk result (λ made.
+        AreFiles graph.now (atoms_in index.now) (atom_numbers made.of.items) index.now
+        (atom_file_at files.now)) }
+    ensures lines { IfOk result (λ made.
+        AreAtoms graph.now (atom_numbers made.of.items) (atoms_in index.now) made.lines.items) }
     ensures index { IfOk result (λ made. made.index.items ≡ index.now) }
-    ensures only { (atoms : ℕ) (of : List ℕ) → IsAssignment graph.now atoms of → AreFiles graph.now atoms of index.now (atom_file_at files.now)
+    ensures only { (atoms : ℕ) (of : List ℕ) → IsAssignment graph.now atoms of →
+        AreFiles graph.now atoms of index.now (atom_file_at files.now)
         → IfOk result (λ made. atom_numbers made.of.items ≡ of) }
     ensures none { OnOk result (gather_fault graph.now index.now (atom_file_at files.now) ≡ None) }
-    ensures fault { (fault : AtomsFault) → result ≡ Err (OrNoMemory.Fault fault) → gather_fault graph.now index.now (atom_file_at files.now) ≡ Some fault }
+    ensures fault { (fault : AtomsFault) → result ≡ Err (OrNoMemory.Fault fault) →
+        gather_fault graph.now index.now (atom_file_at files.now) ≡ Some fault }
 {
     let atoms = match check_index(index) {
         Ok(atoms) => atoms,
@@ -56,7 +64,8 @@ pub fn gathered(
     gathered_under(alloc, graph, of, atoms, index, files)
 }
 
-/// Compares index and files with those of the graph, where `of` says in which of so many atoms each vertex is.
+/// Compares index and files with those of the graph, where `of` says in which of so many atoms each
+/// vertex is.
 fn gathered_under(
     alloc: Global,
     graph: &Graph,
@@ -70,11 +79,15 @@ fn gathered_under(
     requires each { length of.items ≡ size graph.now }
     requires below { All (λ a. a.0 < atoms) of.items }
     ensures of { IfOk result (λ made. made.of.items ≡ of.items) }
-    ensures lines { IfOk result (λ made. AreAtoms graph.now (atom_numbers of.items) atoms made.lines.items) }
+    ensures lines { IfOk result (λ made.
+        AreAtoms graph.now (atom_numbers of.items) atoms made.lines.items) }
     ensures index { IfOk result (λ made. made.index.items ≡ index.now) }
-    ensures none { OnOk result (cut_fault graph.now (atom_numbers of.items) atoms index.now (atom_file_at files.now) ≡ None) }
+    ensures none { OnOk result
+        (cut_fault graph.now (atom_numbers of.items) atoms index.now
+        (atom_file_at files.now) ≡ None) }
     ensures fault { (fault : AtomsFault) → result ≡ Err (OrNoMemory.Fault fault)
-        → cut_fault graph.now (atom_numbers of.items) atoms index.now (atom_file_at files.now) ≡ Some fault }
+        → cut_fault graph.now (atom_numbers of.items) atoms index.now
+        (atom_file_at files.now) ≡ Some fault }
 {
     let lines = lines_of(alloc, graph, &of, atoms)?;
     check_files(alloc, &lines, atoms, files)?;
@@ -98,9 +111,12 @@ fn check_files(
 ) -> Result<(), AtomsReading>
     requires few { atoms ≤ MAX_ATOMS }
     requires each { length lines.now ≡ atoms }
-    requires atoms { (a : ℕ) (d : Lines) → a < atoms → IsAtom (atom_of a (slice_index_or lines.now a d)) }
-    ensures none { OnOk result ((g : DataGraph) (of : List ℕ) → AreAtoms g of atoms lines.now → files_fault g of (atom_file_at files.now) atoms 0 ≡ None) }
-    ensures fault { (fault : AtomsFault) (g : DataGraph) (of : List ℕ) → result ≡ Err (OrNoMemory.Fault fault) → AreAtoms g of atoms lines.now
+    requires atoms { (a : ℕ) (d : Lines) → a < atoms →
+        IsAtom (atom_of a (slice_index_or lines.now a d)) }
+    ensures none { OnOk result ((g : DataGraph) (of : List ℕ) → AreAtoms g of atoms lines.now →
+        files_fault g of (atom_file_at files.now) atoms 0 ≡ None) }
+    ensures fault { (fault : AtomsFault) (g : DataGraph) (of : List ℕ) →
+        result ≡ Err (OrNoMemory.Fault fault) → AreAtoms g of atoms lines.now
         → files_fault g of (atom_file_at files.now) atoms 0 ≡ Some fault }
 {
     for a in 0..atoms {
@@ -118,8 +134,10 @@ pub fn check_atom(
 ) -> Result<(), AtomsReading>
     requires few { atom.0 < MAX_ATOMS }
     requires atom { IsAtom (atom_of atom.0 lines.now) }
-    ensures none { OnOk result (differs_fault (atom.0 + 1) bytes.now (atom_bytes (atom_of atom.0 lines.now)) ≡ None) }
-    ensures fault { (fault : AtomsFault) → result ≡ Err (OrNoMemory.Fault fault) → differs_fault (atom.0 + 1) bytes.now (atom_bytes (atom_of atom.0 lines.now)) ≡ Some fault }
+    ensures none { OnOk result
+        (differs_fault (atom.0 + 1) bytes.now (atom_bytes (atom_of atom.0 lines.now)) ≡ None) }
+    ensures fault { (fault : AtomsFault) → result ≡ Err (OrNoMemory.Fault fault) →
+        differs_fault (atom.0 + 1) bytes.now (atom_bytes (atom_of atom.0 lines.now)) ≡ Some fault }
 {
     let wanted = write_atom(alloc, atom, lines)?;
     match check_same(atom.0 + 1, bytes, &wanted) {
@@ -138,7 +156,8 @@ fn owners_in(
     requires { atoms ≤ MAX_ATOMS }
     ensures held { IfOk result (AreHeld vertices (added_by (atom_file_at files.now) atoms)) }
     ensures none { OnOk result (forms_fault (atom_file_at files.now) atoms 0 ≡ None) }
-    ensures fault { (fault : AtomsFault) → result ≡ Err (OrNoMemory.Fault fault) → forms_fault (atom_file_at files.now) atoms 0 ≡ Some fault }
+    ensures fault { (fault : AtomsFault) → result ≡ Err (OrNoMemory.Fault fault) →
+        forms_fault (atom_file_at files.now) atoms 0 ≡ Some fault }
 {
     let mut owners = Owners::new(alloc, vertices)?;
     for a in 0..atoms {

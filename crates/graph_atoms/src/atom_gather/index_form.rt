@@ -96,8 +96,12 @@ fn check_meta(bytes: &[u8], least: u64, at: usize) -> Result<u32, AtomFault>
     requires { at ≤ length bytes.now }
     ensures whole { IfOk result (λ _. at + 8 ≤ length bytes.now) }
     ensures pair { IfOk result (λ pair. pair ≡ field bytes.now at 4) }
-    ensures none { IfOk result (λ _. (next : Option AtomFault) → option_or (torn_fault bytes.now (at + 8)) (if nat_lt (field bytes.now at 4) least then Some (OutOfOrder at) else next) ≡ next) }
-    ensures fault { IfErr result (λ fault. (next : Option AtomFault) → option_or (torn_fault bytes.now (at + 8)) (if nat_lt (field bytes.now at 4) least then Some (OutOfOrder at) else next) ≡ Some fault) }
+    ensures none { IfOk result (λ _. (next : Option AtomFault) →
+        option_or (torn_fault bytes.now (at + 8))
+        (if nat_lt (field bytes.now at 4) least then Some (OutOfOrder at) else next) ≡ next) }
+    ensures fault { IfErr result (λ fault. (next : Option AtomFault) →
+        option_or (torn_fault bytes.now (at + 8))
+        (if nat_lt (field bytes.now at 4) least then Some (OutOfOrder at) else next) ≡ Some fault) }
 {
     check_whole(bytes, at + 8)?;
     let pair = u32_at(bytes, at);

@@ -40,12 +40,15 @@ impl Owners {
         })
     }
 
-    /// Looks at the form of the file of an atom, and adds its vertices. After a fault all is as before.
+    /// Looks at the form of the file of an atom, and adds its vertices. After a fault all is as
+    /// before.
     pub fn add(&mut self, atom: AtomNo, bytes: &[u8]) -> Result<(), AtomsFault>
         requires { atom.0 < MAX_ATOMS }
         ensures none { OnOk result (atom_fault bytes.now ≡ None) }
-        ensures fault { IfErr result (λ fault. form_of (atom.0 + 1) (atom_fault bytes.now) ≡ Some fault) }
-        ensures added { OnOk result ((n : ℕ) (added : List (ℕ × ℕ)) → AreHeld n added self.old → AreHeld n (added ++ with_atom atom.0 (vertices_added bytes.now)) self.new) }
+        ensures fault { IfErr result (λ fault.
+            form_of (atom.0 + 1) (atom_fault bytes.now) ≡ Some fault) }
+        ensures added { OnOk result ((n : ℕ) (added : List (ℕ × ℕ)) → AreHeld n added self.old →
+            AreHeld n (added ++ with_atom atom.0 (vertices_added bytes.now)) self.new) }
         ensures unchanged { OnErr result (self.new ≡ self.old) }
     {
         match AtomView::read(bytes) {
@@ -57,12 +60,16 @@ impl Owners {
         }
     }
 
-    /// The atom of each vertex. Where a vertex is not in exactly one atom, or a number is added that no vertex has, it is
-    /// refused.
+    /// The atom of each vertex. Where a vertex is not in exactly one atom, or a number is added
+    /// that no vertex has, it is refused.
     pub fn of(&self, alloc: Global) -> Result<Vec<AtomNo>, AtomsReading>
-        ensures of { IfOk result (λ of. (n : ℕ) (added : List (ℕ × ℕ)) → AreHeld n added self.now → atom_numbers of.items ≡ owners_of n added) }
-        ensures none { OnOk result ((n : ℕ) (added : List (ℕ × ℕ)) → AreHeld n added self.now → owner_fault n added ≡ None) }
-        ensures fault { (fault : AtomsFault) (n : ℕ) (added : List (ℕ × ℕ)) → result ≡ Err (OrNoMemory.Fault fault) → AreHeld n added self.now → owner_fault n added ≡ Some fault }
+        ensures of { IfOk result (λ of. (n : ℕ) (added : List (ℕ × ℕ)) → AreHeld n added self.now →
+            atom_numbers of.items ≡ owners_of n added) }
+        ensures none { OnOk result ((n : ℕ) (added : List (ℕ × ℕ)) → AreHeld n added self.now →
+            owner_fault n added ≡ None) }
+        ensures fault { (fault : AtomsFault) (n : ℕ) (added : List (ℕ × ℕ)) →
+            result ≡ Err (OrNoMemory.Fault fault) → AreHeld n added self.now →
+            owner_fault n added ≡ Some fault }
     {
         let of = holders(alloc, &self.held)?;
         if self.beyond {
@@ -73,7 +80,9 @@ impl Owners {
 
     /// Adds the vertices of an atom.
     fn hold_all(&mut self, atom: AtomNo, view: &AtomView<'_>)
-        ensures { (n : ℕ) (added : List (ℕ × ℕ)) → AreHeld n added self.old → AreHeld n (added ++ with_atom atom.0 (map (λ l. l.vertex.0) view.now.vertices)) self.new }
+        ensures { (n : ℕ) (added : List (ℕ × ℕ)) → AreHeld n added self.old →
+            AreHeld n (added ++ with_atom atom.0 (map (λ l.
+            l.vertex.0) view.now.vertices)) self.new }
     {
         for i in 0..view.vertices() {
             self.hold(atom, view.vertex_line(i).vertex);
@@ -82,7 +91,8 @@ impl Owners {
 
     /// Adds a vertex of an atom.
     fn hold(&mut self, atom: AtomNo, vertex: Vertex)
-        ensures { (n : ℕ) (added : List (ℕ × ℕ)) → AreHeld n added self.old → AreHeld n (added ++ (vertex.0, atom.0) ∷ []) self.new }
+        ensures { (n : ℕ) (added : List (ℕ × ℕ)) → AreHeld n added self.old →
+            AreHeld n (added ++ (vertex.0, atom.0) ∷ []) self.new }
     {
         let place = vertex.0 as usize;
         if place < self.held.len() {
@@ -106,7 +116,8 @@ fn more(held: Held, atom: AtomNo) -> Held
 /// The one atom that adds each vertex.
 fn holders(alloc: Global, held: &[Held]) -> Result<Vec<AtomNo>, AtomsReading>
     ensures all { IfOk result (λ of. AreAllHeld held.now (atom_numbers of.items)) }
-    ensures first { (fault : AtomsFault) → result ≡ Err (OrNoMemory.Fault fault) → IsFirstUnheld held.now fault }
+    ensures first { (fault : AtomsFault) → result ≡ Err (OrNoMemory.Fault fault) →
+        IsFirstUnheld held.now fault }
 {
     let mut of = room_for(alloc, held.len())?;
     for v in 0..held.len() {

@@ -7,14 +7,16 @@ use gl_base::NoMemory;
 use std::alloc::Global;
 use std::cmp::Reverse;
 
-/// An atom with its weight. The heaviest is the least, and of two that weigh the same that of the lower number.
+/// An atom with its weight. The heaviest is the least, and of two that weigh the same that of the
+/// lower number.
 #[derive(Clone, Copy, PartialEq, Eq, PartialOrd, Ord)]
 pub struct Rank {
     pub weight: Reverse<u64>,
     pub atom: usize,
 }
 
-/// The numbers of the atoms with these weights, the heaviest first, and the lower first of two that weigh the same.
+/// The numbers of the atoms with these weights, the heaviest first, and the lower first of two that
+/// weigh the same.
 pub fn by_falling_weight(alloc: Global, weights: &[u64]) -> Result<Vec<usize>, NoMemory>
     ensures { IfOk result (λ order. IsFalling weights.now order.items) }
 {

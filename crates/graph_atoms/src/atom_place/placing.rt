@@ -7,13 +7,16 @@ use crate::atom_place::loads::least_loaded;
 use gl_base::{MachineNo, NoMemory};
 use std::alloc::Global;
 
-/// The machine of each atom. Atoms are taken by falling weight, the lower number first at a tie, and each goes to the
-/// least loaded machine, the lower at a tie. So no machine carries more than the mean load and the heaviest atom.
+/// The machine of each atom. Atoms are taken by falling weight, the lower number first at a tie,
+/// and each goes to the least loaded machine, the lower at a tie. So no machine carries more than
+/// the mean load and the heaviest atom.
 pub fn place(alloc: Global, weights: &[u64], machines: u16) -> Result<Vec<MachineNo>, NoMemory>
     requires some { 1 ≤ machines }
     requires fits { sum weights.now < 2 ^ 64 }
-    ensures placed { IfOk result (λ owners. IsPlacing weights.now machines (map (λ m. m.0) owners.items)) }
-    ensures balanced { IfOk result (λ owners. IsBalanced weights.now machines (map (λ m. m.0) owners.items)) }
+    ensures placed { IfOk result (λ owners.
+        IsPlacing weights.now machines (map (λ m. m.0) owners.items)) }
+    ensures balanced { IfOk result (λ owners.
+        IsBalanced weights.now machines (map (λ m. m.0) owners.items)) }
 {
     let order = by_falling_weight(alloc, weights)?;
     let mut owners = vec![in alloc; MachineNo(0); weights.len()]?;

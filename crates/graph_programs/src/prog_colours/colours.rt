@@ -27,8 +27,8 @@ impl Program for Colours {
     }
 }
 
-/// The least colour that no neighbour has. It is one more than the degree at most, and each colour up to
-/// it is looked for among the neighbours.
+/// The least colour that no neighbour has. It is one more than the degree at most, and each colour
+/// up to it is looked for among the neighbours.
 fn least_free_colour(scope: &Scope<'_>) -> u64
     ensures { result ≡ least_free (nears scope.now) }
 {

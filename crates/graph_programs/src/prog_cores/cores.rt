@@ -7,8 +7,9 @@ ghost use Rattle.update_api.specs.Updates.{update_of_cores};
 use gl_base::INF;
 use update_api::{Program, Scope, Woken};
 
-/// Each vertex gets its core number: the greatest k for which it lies in a part of the graph whose vertices all have at least k
-/// neighbours in that part (Seidman 1983). The edges have no direction.
+/// Each vertex gets its core number: the greatest k for which it lies in a part of the graph whose
+/// vertices all have at least k neighbours in that part (Seidman 1983). The edges have no
+/// direction.
 #[derive(Clone, Copy)]
 pub struct Cores;
 
@@ -30,8 +31,8 @@ impl Program for Cores {
     }
 }
 
-/// Returns the greatest number up to `most` that as many neighbours reach. Fewer neighbours reach a greater number, so it is found by
-/// halving.
+/// Returns the greatest number up to `most` that as many neighbours reach. Fewer neighbours reach a
+/// greater number, so it is found by halving.
 fn greatest_supported(scope: &Scope<'_>, most: u64) -> u64
     ensures { result ≡ greatest_supported most (nears scope.now) }
 {

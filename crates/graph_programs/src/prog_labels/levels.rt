@@ -7,8 +7,8 @@ ghost use Rattle.update_api.specs.Updates.{least, comes_reached, update_of_level
 use gl_base::INF;
 use update_api::{Program, Scope, Woken};
 
-/// Each vertex gets its level: how many edges a shortest walk from the source to it has, and `INF` where
-/// there is no walk.
+/// Each vertex gets its level: how many edges a shortest walk from the source to it has, and `INF`
+/// where there is no walk.
 #[derive(Clone, Copy)]
 pub struct Levels {
     /// The identifier of the source.
@@ -33,9 +33,11 @@ impl Program for Levels {
     }
 }
 
-/// The least of the vertex's own level and one more than the level of each in-neighbour that was reached.
+/// The least of the vertex's own level and one more than the level of each in-neighbour that was
+/// reached.
 fn least_level(scope: &Scope<'_>) -> u64
-    ensures { let offered = map (λ near. near.number + 1) (filter comes_reached (nears scope.now)) in
+    ensures { let offered = map (λ near.
+        near.number + 1) (filter comes_reached (nears scope.now)) in
         result ≡ least scope.now.centre.now offered }
 {
     let mut level = scope.centre();
@@ -45,8 +47,8 @@ fn least_level(scope: &Scope<'_>) -> u64
     level
 }
 
-/// The level, or one more than that of a neighbour which was reached and from which an edge comes, where
-/// that is less.
+/// The level, or one more than that of a neighbour which was reached and from which an edge comes,
+/// where that is less.
 fn lowered(level: u64, neighbour: u64, comes: bool) -> u64
     ensures { result
         ≡ (if comes && nat_lt neighbour INF then min level (neighbour + 1) else level) }

@@ -9,9 +9,9 @@ ghost use Rattle.update_api.specs.Updates.{least, comes_reached, update_of_paths
 use gl_base::INF;
 use update_api::{Direction, Program, Scope, Woken};
 
-/// Each vertex gets its distance: the least sum of weights along a walk from the source to it, and `INF`
-/// where there is no walk. Each edge gets 1 where it is tight, which is where a distance and the edge's
-/// weight make up the distance that it leads to, and 0 elsewhere.
+/// Each vertex gets its distance: the least sum of weights along a walk from the source to it, and
+/// `INF` where there is no walk. Each edge gets 1 where it is tight, which is where a distance and
+/// the edge's weight make up the distance that it leads to, and 0 elsewhere.
 #[derive(Clone, Copy)]
 pub struct Paths {
     /// The identifier of the source.
@@ -37,8 +37,8 @@ impl Program for Paths {
     }
 }
 
-/// The least of the vertex's own distance and, for each in-neighbour that was reached, its distance and
-/// the weight of the edge.
+/// The least of the vertex's own distance and, for each in-neighbour that was reached, its distance
+/// and the weight of the edge.
 fn least_distance(scope: &Scope<'_>) -> u64
     ensures { let reached = filter comes_reached (nears scope.now) in
         result ≡ least scope.now.centre.now (map (λ near. near.number + near.weight) reached) }
@@ -51,8 +51,8 @@ fn least_distance(scope: &Scope<'_>) -> u64
     distance
 }
 
-/// The distance, or that of a neighbour which was reached and from which an edge of this weight comes,
-/// together with the weight, where that is less.
+/// The distance, or that of a neighbour which was reached and from which an edge of this weight
+/// comes, together with the weight, where that is less.
 fn lowered(distance: u64, neighbour: u64, weight: u32, comes: bool) -> u64
     ensures { result
         ≡ (if comes && nat_lt neighbour INF then min distance (neighbour + weight) else distance) }
@@ -64,11 +64,12 @@ fn lowered(distance: u64, neighbour: u64, weight: u32, comes: bool) -> u64
     }
 }
 
-/// Marks each edge at the vertex, which has the distance `own` now: 1 where it is tight, and 0 elsewhere.
-/// No mark depends on the source, and so the contracts name any.
+/// Marks each edge at the vertex, which has the distance `own` now: 1 where it is tight, and 0
+/// elsewhere. No mark depends on the source, and so the contracts name any.
 fn mark_edges(scope: &mut Scope<'_>, own: u64)
     ensures marks { let mark = (update_of_paths 0).mark own in
-        AreMarked mark (numbers scope.old) scope.old.edges.now scope.old.links.now scope.new.edges.now }
+        AreMarked mark (numbers scope.old) scope.old.edges.now
+        scope.old.links.now scope.new.edges.now }
     ensures same_id { scope.new.id ≡ scope.old.id }
     ensures same_links { scope.new.links.now ≡ scope.old.links.now }
     ensures same_low { scope.new.low.now ≡ scope.old.low.now }
@@ -82,8 +83,8 @@ fn mark_edges(scope: &mut Scope<'_>, own: u64)
     }
 }
 
-/// The mark of an edge of this weight: 1 where it leads without slack from a reached end to the other one,
-/// and 0 elsewhere.
+/// The mark of an edge of this weight: 1 where it leads without slack from a reached end to the
+/// other one, and 0 elsewhere.
 fn mark_of(own: u64, neighbour: u64, weight: u32, direction: Direction) -> u64
     ensures { (old : ℕ) → let out = leads_out direction in
         let into = leads_into direction in

@@ -20,7 +20,8 @@ pub enum JobProgram {
 }
 
 impl JobProgram {
-    /// The program of the algorithm. Where it asks for a source, that is the vertex with this identifier.
+    /// The program of the algorithm. Where it asks for a source, that is the vertex with this
+    /// identifier.
     pub fn of(algorithm: Algorithm, source: u64) -> JobProgram
         ensures { update_of_program result ≡ update_of_algorithm algorithm source }
     {

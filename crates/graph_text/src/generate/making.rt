@@ -43,11 +43,12 @@ impl From<NoMemory> for Writing {
     }
 }
 
-/// Writes the vertex text of a made graph: the identifiers from 1 to the number of vertices, one a line. Where the sink
-/// fails or memory runs out a front of it was written.
+/// Writes the vertex text of a made graph: the identifiers from 1 to the number of vertices, one a
+/// line. Where the sink fails or memory runs out a front of it was written.
 pub fn make_vertices<K: Sink>(alloc: Global, sink: &mut K, plan: &MakePlan) -> Result<(), Writing>
     requires { IsPlanInRange plan.now }
-    ensures written { Writes result (made_vertices plan.now) (K.held sink.old) (K.held sink.new) (K.faults sink.old) (K.faults sink.new) }
+    ensures written { Writes result (made_vertices plan.now) (K.held sink.old) (K.held sink.new)
+        (K.faults sink.old) (K.faults sink.new) }
     ensures later { K.faults sink.old ≤ K.faults sink.new }
     ensures same { K.same sink.old sink.new }
 {
@@ -61,11 +62,12 @@ pub fn make_vertices<K: Sink>(alloc: Global, sink: &mut K, plan: &MakePlan) -> R
     Ok(())
 }
 
-/// Writes the edge text of a made graph: for each edge the identifiers of its ends and, where the plan has weights, its
-/// weight. Where the sink fails or memory runs out a front of it was written.
+/// Writes the edge text of a made graph: for each edge the identifiers of its ends and, where the
+/// plan has weights, its weight. Where the sink fails or memory runs out a front of it was written.
 pub fn make_edges<K: Sink>(alloc: Global, sink: &mut K, plan: &MakePlan) -> Result<(), Writing>
     requires { IsPlanInRange plan.now }
-    ensures written { WritesEdges result plan.now (K.held sink.old) (K.held sink.new) (K.faults sink.old) (K.faults sink.new) }
+    ensures written { WritesEdges result plan.now (K.held sink.old) (K.held sink.new)
+        (K.faults sink.old) (K.faults sink.new) }
     ensures later { K.faults sink.old ≤ K.faults sink.new }
     ensures same { K.same sink.old sink.new }
 {
@@ -82,7 +84,8 @@ fn write_edges<K: Sink>(
 ) -> Result<(), Writing>
     requires plan { IsPlanInRange plan.now }
     requires stride { stride ≤ offset_count plan.now.vertices + 1 }
-    ensures written { Writes result (made_edges plan.now stride) (K.held sink.old) (K.held sink.new) (K.faults sink.old) (K.faults sink.new) }
+    ensures written { Writes result (made_edges plan.now stride) (K.held sink.old) (K.held sink.new)
+        (K.faults sink.old) (K.faults sink.new) }
     ensures later { K.faults sink.old ≤ K.faults sink.new }
     ensures same { K.same sink.old sink.new }
 {

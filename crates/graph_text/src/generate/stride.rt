@@ -3,7 +3,8 @@ ghost use Rattle.std.specs.Prelude.{◌≤◌, ◌<◌, ◌+◌, ◌^◌};
 ghost use Rattle.std.specs.Int.{IsGcd};
 ghost use Rattle.graph_text.specs.generate.Making.{IsStride};
 
-/// The least number that is at least 1, at least 0.618 times `half`, rounded down, and has no common divisor with it.
+/// The least number that is at least 1, at least 0.618 times `half`, rounded down, and has no
+/// common divisor with it.
 pub(crate) fn stride_of(half: u64) -> u64
     requires { half < 2 ^ 32 }
     ensures stride { IsStride half result }

@@ -25,8 +25,8 @@ pub(crate) enum Place {
     BehindThird,
 }
 
-/// A line as far as it was read: the place, and the numbers of the fields that are ended. The number of the field that
-/// is begun is kept beside it.
+/// A line as far as it was read: the place, and the numbers of the fields that are ended. The
+/// number of the field that is begun is kept beside it.
 #[derive(Clone, Copy)]
 pub(crate) struct Fields {
     pub(crate) place: Place,
@@ -78,7 +78,8 @@ impl Fields {
     /// Takes a blank or a tab, which ends a field.
     #[inline]
     fn leave(&mut self, number: Option<u64>)
-        ensures { (byte : ℕ) → is_blank byte ≡ true → seen_at self.new None ≡ seen_more (seen_at self.old number) byte }
+        ensures { (byte : ℕ) → is_blank byte ≡ true →
+            seen_at self.new None ≡ seen_more (seen_at self.old number) byte }
     {
         match self.place {
             Place::First => {
@@ -122,7 +123,8 @@ impl Fields {
         with_byte(number, byte)
     }
 
-    /// The fields of the line, where the byte that stands next is at `place` with this number beside it.
+    /// The fields of the line, where the byte that stands next is at `place` with this number
+    /// beside it.
     #[inline]
     pub(crate) fn row(self, place: Place, number: Option<u64>) -> Row
         ensures { result ≡ row_seen (seen_before self (place, number)) }

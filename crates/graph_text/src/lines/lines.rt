@@ -18,7 +18,8 @@ use std::alloc::Global;
 /// How many bytes are asked for at once.
 const PIECE: usize = 65536;
 
-/// What was found in a text: items with their lines, and why no more was read, where the text has more.
+/// What was found in a text: items with their lines, and why no more was read, where the text has
+/// more.
 #[derive(Drop)]
 pub struct FoundItems<X> {
     pub items: Vec<X>,
@@ -92,7 +93,8 @@ impl<X: LineItem> Lines<X> {
     #[inline]
     fn end_line(&mut self, weighted: bool, number: Option<u64>) -> Result<(), Halt<X>>
         requires { self.old.line + 1 < 2 ^ 32 }
-        ensures kept { LeadsTo (line_end X.MOST (X.says weighted) (read_text self.old number)) (kept_at self.new) result }
+        ensures kept { LeadsTo (line_end X.MOST (X.says weighted) (read_text self.old number))
+            (kept_at self.new) result }
         ensures line { self.new.line ≤ self.old.line + 1 }
     {
         let (place, number) = match self.before_cr {
@@ -102,7 +104,8 @@ impl<X: LineItem> Lines<X> {
         self.keep(X::said(self.fields.row(place, number), weighted))
     }
 
-    /// Takes one byte, and gives the number of the field that is begun. A digit inside a number touches that number alone.
+    /// Takes one byte, and gives the number of the field that is begun. A digit inside a number
+    /// touches that number alone.
     #[inline(always)]
     fn take(
         &mut self,
@@ -112,7 +115,8 @@ impl<X: LineItem> Lines<X> {
     ) -> Result<Option<u64>, Halt<X>>
         requires between { IsBetween self.old number }
         requires room { self.old.line + 1 < 2 ^ 32 }
-        ensures takes { LeadsToText (byte_step X.MOST (X.says weighted) (read_text self.old number) byte) self.new result }
+        ensures takes { LeadsToText
+            (byte_step X.MOST (X.says weighted) (read_text self.old number) byte) self.new result }
         ensures between { IfOk result (IsBetween self.new) }
         ensures line { self.new.line ≤ self.old.line + 1 }
     {
@@ -130,7 +134,8 @@ impl<X: LineItem> Lines<X> {
         byte: u8,
     ) -> Result<Option<u64>, Halt<X>>
         requires { self.old.line + 1 < 2 ^ 32 }
-        ensures takes { LeadsToText (byte_step X.MOST (X.says weighted) (read_text self.old number) byte) self.new result }
+        ensures takes { LeadsToText
+            (byte_step X.MOST (X.says weighted) (read_text self.old number) byte) self.new result }
         ensures between { IfOk result (IsBetween self.new) }
         ensures line { self.new.line ≤ self.old.line + 1 }
     {
@@ -149,8 +154,8 @@ impl<X: LineItem> Lines<X> {
         Ok(self.fields.take(number, byte))
     }
 
-    /// Takes the plain line at the front of the bytes, where no line is begun, and says how many bytes that are: none where
-    /// no plain line is found.
+    /// Takes the plain line at the front of the bytes, where no line is begun, and says how many
+    /// bytes that are: none where no plain line is found.
     #[inline(always)]
     fn take_plain(
         &mut self,
@@ -159,7 +164,8 @@ impl<X: LineItem> Lines<X> {
         bytes: &[u8],
     ) -> Result<usize, Halt<X>>
         requires room { self.old.line + 1 < 2 ^ 32 }
-        ensures takes { TakesPlain X.MOST (X.says weighted) self.old number bytes.now self.new result }
+        ensures takes { TakesPlain X.MOST (X.says weighted) self.old number
+            bytes.now self.new result }
         ensures line { self.new.line ≤ self.old.line + 1 }
         ensures lines { IfOk result (λ taken. self.new.line ≤ self.old.line + taken) }
     {
@@ -185,7 +191,9 @@ impl<X: LineItem> Lines<X> {
     ) -> Result<Option<u64>, Halt<X>>
         requires between { IsBetween self.old number }
         requires room { self.old.line + length bytes.now < 2 ^ 32 }
-        ensures takes { LeadsToText (run (byte_step X.MOST (X.says weighted)) (read_text self.old number) bytes.now) self.new result }
+        ensures takes { LeadsToText
+            (run (byte_step X.MOST (X.says weighted)) (read_text self.old number) bytes.now)
+            self.new result }
         ensures between { IfOk result (IsBetween self.new) }
         ensures line { self.new.line ≤ self.old.line + length bytes.now }
     {
@@ -213,7 +221,8 @@ impl<X: LineItem> Lines<X> {
     ) -> Result<Option<u64>, Halt<X>>
         requires between { IsBetween self.old number }
         requires room { self.old.line + room < 2 ^ 32 }
-        ensures takes { TakesPiece X.MOST (X.says weighted) (read_text self.old number) piece.now room self.new result }
+        ensures takes { TakesPiece X.MOST (X.says weighted) (read_text self.old number)
+            piece.now room self.new result }
         ensures between { IfOk result (IsBetween self.new) }
         ensures line { IfOk result (λ _. self.new.line ≤ self.old.line + length piece.now) }
     {
@@ -226,14 +235,15 @@ impl<X: LineItem> Lines<X> {
     }
 }
 
-/// Reads the source to its end, or up to the line that ends the reading. The source keeps what was taken, whatever is
-/// answered.
+/// Reads the source to its end, or up to the line that ends the reading. The source keeps what was
+/// taken, whatever is answered.
 pub fn read_lines<S: Source, X: LineItem>(
     alloc: Global,
     source: &mut S,
     weighted: bool,
 ) -> Result<FoundItems<X>, Unread>
-    ensures answer { ReadsLines X.MOST (X.says weighted) result (S.left source.old) (S.faults source.old) (S.faults source.new) }
+    ensures answer { ReadsLines X.MOST (X.says weighted) result (S.left source.old)
+        (S.faults source.old) (S.faults source.new) }
     ensures taken { (taken : List ℕ) × Consumes (S.left source.old) (S.left source.new) taken }
     ensures later { S.faults source.old ≤ S.faults source.new }
     ensures same { S.same source.old source.new }
@@ -252,14 +262,16 @@ pub fn read_lines<S: Source, X: LineItem>(
     })
 }
 
-/// Reads the bytes of the source. Each turn takes one at least, so one turn more than there may be finds the end.
+/// Reads the bytes of the source. Each turn takes one at least, so one turn more than there may be
+/// finds the end.
 fn read_bytes<S: Source, X: LineItem>(
     source: &mut S,
     weighted: bool,
     lines: &mut Lines<X>,
 ) -> Result<(), Halt<X>>
     requires { read_text lines.old None ≡ nothing_read }
-    ensures answer { ReadsBytes X.MOST (X.says weighted) (kept_at lines.new) result (S.left source.old) (S.faults source.old) (S.faults source.new) }
+    ensures answer { ReadsBytes X.MOST (X.says weighted) (kept_at lines.new) result
+        (S.left source.old) (S.faults source.old) (S.faults source.new) }
     ensures taken { (taken : List ℕ) × Consumes (S.left source.old) (S.left source.new) taken }
     ensures later { S.faults source.old ≤ S.faults source.new }
     ensures same { S.same source.old source.new }

@@ -1,5 +1,5 @@
-//! Plain lines: up to three numbers with one blank between them, and LF. They are read without a look at the place of each
-//! byte.
+//! Plain lines: up to three numbers with one blank between them, and LF. They are read without a
+//! look at the place of each byte.
 ghost use Rattle.std.specs.Prelude.{◌≡◌, ◌+◌, ◌≤◌, length, MatchOption, Some};
 ghost use Rattle.graph_text.specs.lines.Inner.Steps.{behind_first as at_second, behind_second as at_third};
 ghost use Rattle.graph_text.specs.lines.Inner.PlainLines.{IsNumberAt, IsReadTo, IsLineAt};

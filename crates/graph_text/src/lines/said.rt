@@ -2,7 +2,8 @@
 use gl_base::TextKind;
 use std::alloc::AllocError;
 
-/// The first three fields of a line. A number is `None` where the field isn't one, and `INF` where it is above.
+/// The first three fields of a line. A number is `None` where the field isn't one, and `INF` where
+/// it is above.
 #[derive(Clone, Copy)]
 pub enum Row {
     /// The line has no field, or is a comment.

@@ -8,8 +8,8 @@ use gl_base::{Algorithm, INF, NoMemory, Vertex, push_decimal};
 use graph_core::Graph;
 use std::alloc::Global;
 
-/// A line for each vertex, by ascending identifier: the identifier, one blank, and the number at its place in
-/// decimal. Where `kind` is `Paths`, `INF` is printed as `infinity`.
+/// A line for each vertex, by ascending identifier: the identifier, one blank, and the number at
+/// its place in decimal. Where `kind` is `Paths`, `INF` is printed as `infinity`.
 pub fn answer(
     alloc: Global,
     graph: &Graph,
@@ -50,7 +50,9 @@ fn size_of_number(number: u64, kind: Algorithm) -> usize {
 
 /// Adds the line of a vertex.
 fn push_line(text: &mut Vec<u8>, id: u64, number: u64, kind: Algorithm) -> Result<(), NoMemory>
-    ensures { OnOk result (text.new.items ≡ text.old.items ++ (decimal id ++ 32 ∷ number_text kind number ++ 10 ∷ [])) }
+    ensures { OnOk result
+        (text.new.items ≡ text.old.items ++ (decimal id ++ 32 ∷ number_text
+        kind number ++ 10 ∷ [])) }
 {
     push_decimal(text, id)?;
     text.push(b' ')?;

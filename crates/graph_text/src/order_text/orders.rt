@@ -7,8 +7,8 @@ use gl_base::{Entry, MachineNo, NoMemory, push_decimal};
 use graph_core::Graph;
 use std::alloc::Global;
 
-/// A line for each entry, in turn: ticket, machine and identifier of an update, and ticket and `restart` of a
-/// recovery, with one blank between.
+/// A line for each entry, in turn: ticket, machine and identifier of an update, and ticket and
+/// `restart` of a recovery, with one blank between.
 pub fn order_bytes(alloc: Global, graph: &Graph, order: &[Entry]) -> Result<Vec<u8>, NoMemory>
     requires { All (IsEntryOf graph.now) order.now }
     ensures { IfOk result (λ text. text.items ≡ order_text graph.now.ids order.now) }

@@ -9,8 +9,9 @@ use itoa::Integer;
 use sha2::{Digest, Sha256};
 use std::alloc::Global;
 
-/// Six lines: how many vertices and edges the graph has, how many vertices were reached, the sum and the maximum of
-/// their numbers, and the SHA-256 of the answer in lower-case hexadecimal digits.
+/// Six lines: how many vertices and edges the graph has, how many vertices were reached, the sum
+/// and the maximum of their numbers, and the SHA-256 of the answer in lower-case hexadecimal
+/// digits.
 pub fn report(alloc: Global, graph: &Graph, fold: &Fold, answer: &[u8]) -> Result<Vec<u8>, NoMemory>
     ensures { IfOk result (λ text. text.items ≡ report_text graph.now fold.now answer.now) }
 {
@@ -27,7 +28,8 @@ pub fn report(alloc: Global, graph: &Graph, fold: &Fold, answer: &[u8]) -> Resul
 
 /// Adds a line with a number.
 fn push_number<I: Integer>(text: &mut Vec<u8>, name: &[u8], number: I) -> Result<(), NoMemory>
-    ensures { OnOk result (text.new.items ≡ text.old.items ++ report_line name.now (I.text number)) }
+    ensures { OnOk result
+        (text.new.items ≡ text.old.items ++ report_line name.now (I.text number)) }
 {
     text.extend_from_slice(name)?;
     text.push(b' ')?;
@@ -43,7 +45,8 @@ fn push_digest(
     name: &[u8],
     digest: &[u8],
 ) -> Result<(), NoMemory>
-    ensures { OnOk result (text.new.items ≡ text.old.items ++ report_line name.now (hex_text digest.now)) }
+    ensures { OnOk result
+        (text.new.items ≡ text.old.items ++ report_line name.now (hex_text digest.now)) }
 {
     text.extend_from_slice(name)?;
     text.push(b' ')?;

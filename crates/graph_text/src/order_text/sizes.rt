@@ -1,5 +1,5 @@
-//! How many bytes numbers have in decimal, so that a text is made in a list of just its size. No clause depends on it: where
-//! it were wrong a text would grow, or its list have room to spare.
+//! How many bytes numbers have in decimal, so that a text is made in a list of just its size. No
+//! clause depends on it: where it were wrong a text would grow, or its list have room to spare.
 /// The least numbers with one digit, with two, and so on.
 const LEAST: [u64; 19] = [
     1,
@@ -23,7 +23,8 @@ const LEAST: [u64; 19] = [
     1000000000000000000,
 ];
 
-/// How many digits a number has. So many bits make at least 1233 / 4096 of their number of digits, and at most one more.
+/// How many digits a number has. So many bits make at least 1233 / 4096 of their number of digits,
+/// and at most one more.
 pub fn digits(number: u64) -> usize {
     let number = number | 1;
     let bits = (64 - number.leading_zeros()).min(63);

@@ -41,7 +41,8 @@ impl Fold {
         requires reached { self.reached + other.reached < 2 ^ 64 }
         requires sum { self.sum + other.sum < 2 ^ 128 }
         ensures merged { result ≡ merged self other }
-        ensures lists { (xs ys : List ℕ) → self ≡ fold_of xs → other ≡ fold_of ys → result ≡ fold_of (xs ++ ys) }
+        ensures lists { (xs ys : List ℕ) → self ≡ fold_of xs → other ≡ fold_of ys →
+            result ≡ fold_of (xs ++ ys) }
     {
         Fold {
             reached: self.reached + other.reached,

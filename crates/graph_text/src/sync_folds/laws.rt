@@ -24,12 +24,14 @@ pub fn order_does_not_count()
 /// No reached number is above `max`, and a `max` above 0 is one of them.
 pub fn max_is_greatest()
     ensures bound { (values : List ℕ) → All (λ x. x ≤ (fold_of values).max) (reached_of values) }
-    ensures among { (values : List ℕ) → 0 < (fold_of values).max → Contains (reached_of values) (fold_of values).max }
+    ensures among { (values : List ℕ) → 0 < (fold_of values).max →
+        Contains (reached_of values) (fold_of values).max }
 {}
 
-/// No more numbers are reached than there are, and their sum is at most a bound for each of them. So folds of parts of
-/// a graph may be merged.
+/// No more numbers are reached than there are, and their sum is at most a bound for each of them.
+/// So folds of parts of a graph may be merged.
 pub fn folds_are_bounded()
     ensures reached { (values : List ℕ) → (fold_of values).reached ≤ length values }
-    ensures sum { (values : List ℕ) (bound : ℕ) → All (λ x. x ≤ bound) values → (fold_of values).sum ≤ length values * bound }
+    ensures sum { (values : List ℕ) (bound : ℕ) → All (λ x. x ≤ bound) values →
+        (fold_of values).sum ≤ length values * bound }
 {}

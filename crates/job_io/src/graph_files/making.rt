@@ -13,8 +13,8 @@ use gl_outside::{Files, Sink, SinkOf};
 use graph_text::generate::{Writing, make_edges, make_vertices};
 use std::alloc::Global;
 
-/// Writes the vertex text and the edge text of the plan's graph to the files PREFIX.v and PREFIX.e. Where it fails each of
-/// these files is what it was, or has a front of its text.
+/// Writes the vertex text and the edge text of the plan's graph to the files PREFIX.v and PREFIX.e.
+/// Where it fails each of these files is what it was, or has a front of its text.
 pub fn make_files<F: Files>(
     alloc: Global,
     files: &mut F,
@@ -22,12 +22,20 @@ pub fn make_files<F: Files>(
     plan: &MakePlan,
 ) -> Result<(), Writing>
     requires { IsPlanInRange plan.now }
-    ensures made_vertices { OnOk result (LeavesText plan.now Vertices (F.state files.old) (F.state files.new) (vertices_name prefix.now)) }
-    ensures made_edges { OnOk result (LeavesText plan.now Edges (F.state files.old) (F.state files.new) (edges_name prefix.now)) }
-    ensures vertices { LeavesFront plan.now Vertices (F.state files.old) (F.state files.new) (vertices_name prefix.now) }
-    ensures edges { LeavesFront plan.now Edges (F.state files.old) (F.state files.new) (edges_name prefix.now) }
-    ensures fault { IfErr result (λ why. IsFault why (F.state files.old).sinks.faults (F.state files.new).sinks.faults) }
-    ensures wrote { WritesFiles (vertices_name prefix.now ∷ edges_name prefix.now ∷ []) (F.state files.old) (F.state files.new) }
+    ensures made_vertices { OnOk result
+        (LeavesText plan.now Vertices (F.state files.old) (F.state files.new)
+        (vertices_name prefix.now)) }
+    ensures made_edges { OnOk result
+        (LeavesText plan.now Edges (F.state files.old) (F.state files.new)
+        (edges_name prefix.now)) }
+    ensures vertices { LeavesFront plan.now Vertices (F.state files.old) (F.state files.new)
+        (vertices_name prefix.now) }
+    ensures edges { LeavesFront plan.now Edges (F.state files.old) (F.state files.new)
+        (edges_name prefix.now) }
+    ensures fault { IfErr result (λ why.
+        IsFault why (F.state files.old).sinks.faults (F.state files.new).sinks.faults) }
+    ensures wrote { WritesFiles (vertices_name prefix.now ∷ edges_name prefix.now ∷ [])
+        (F.state files.old) (F.state files.new) }
 {
     make_file(alloc, files, prefix, TextFile::Vertices, plan)?;
     make_file(alloc, files, prefix, TextFile::Edges, plan)
@@ -42,11 +50,18 @@ fn make_file<F: Files>(
     plan: &MakePlan,
 ) -> Result<(), Writing>
     requires { IsPlanInRange plan.now }
-    ensures made { OnOk result (LeavesText plan.now text (F.state files.old) (F.state files.new) (prefix.now ++ ending_of text)) }
-    ensures front { LeavesFront plan.now text (F.state files.old) (F.state files.new) (prefix.now ++ ending_of text) }
-    ensures fault { IfErr result (λ why. IsFault why (F.state files.old).sinks.faults (F.state files.new).sinks.faults) }
-    ensures wrote { WritesFiles ((prefix.now ++ ending_of text) ∷ []) (F.state files.old) (F.state files.new) }
-    ensures handed { OnOk result (AppendsNames (F.state files.old).sinks.names (F.state files.new).sinks.names ((prefix.now ++ ending_of text) ∷ [])) }
+    ensures made { OnOk result
+        (LeavesText plan.now text (F.state files.old) (F.state files.new)
+        (prefix.now ++ ending_of text)) }
+    ensures front { LeavesFront plan.now text (F.state files.old) (F.state files.new)
+        (prefix.now ++ ending_of text) }
+    ensures fault { IfErr result (λ why.
+        IsFault why (F.state files.old).sinks.faults (F.state files.new).sinks.faults) }
+    ensures wrote { WritesFiles ((prefix.now ++ ending_of text) ∷ [])
+        (F.state files.old) (F.state files.new) }
+    ensures handed { OnOk result
+        (AppendsNames (F.state files.old).sinks.names (F.state files.new).sinks.names
+        ((prefix.now ++ ending_of text) ∷ [])) }
 {
     let name = file_name(alloc, prefix, text)?;
     let file = match files.open_sink(name.as_str()) {
@@ -64,8 +79,10 @@ fn write_text<K: Sink>(
     plan: &MakePlan,
 ) -> Result<(), Writing>
     requires { IsPlanInRange plan.now }
-    ensures made { OnOk result ((bytes : List ℕ) × IsMade plan.now text bytes × Appends (K.held sink.old) (K.held sink.new) bytes) }
-    ensures front { (bytes : List ℕ) × IsMadeFront plan.now text bytes × Appends (K.held sink.old) (K.held sink.new) bytes }
+    ensures made { OnOk result ((bytes : List ℕ) × IsMade plan.now text bytes ×
+        Appends (K.held sink.old) (K.held sink.new) bytes) }
+    ensures front { (bytes : List ℕ) × IsMadeFront plan.now text bytes ×
+        Appends (K.held sink.old) (K.held sink.new) bytes }
     ensures fault { IfErr result (λ why. IsFault why (K.faults sink.old) (K.faults sink.new)) }
     ensures later { K.faults sink.old ≤ K.faults sink.new }
     ensures same { K.same sink.old sink.new }

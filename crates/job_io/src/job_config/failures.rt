@@ -17,8 +17,8 @@ const MAX_FAILURES: usize = 64;
 /// The greatest count of updates after which a machine may fail.
 const MAX_AFTER: u64 = 16777216;
 
-/// An object of exactly the two keys, each a whole number. A machine above the greatest `u16` is out of
-/// each range, and counts as it.
+/// An object of exactly the two keys, each a whole number. A machine above the greatest `u16` is
+/// out of each range, and counts as it.
 fn read_failure(value: &Value) -> Option<FailureAt>
     ensures { result ≡ failure_in (view value.now) }
 {

@@ -60,7 +60,8 @@ pub struct Fields<'a> {
 
 /// The algorithm, which is needed.
 fn required_algorithm(value: Option<&Value>) -> Result<Algorithm, KeyFault>
-    ensures { result ≡ required Key.Algorithm algorithm_in (option_map (λ v. view v.now) value.entry) }
+    ensures { result ≡ required Key.Algorithm algorithm_in (option_map (λ v.
+        view v.now) value.entry) }
 {
     match value {
         None => Err(KeyFault::Missing(Key::Algorithm)),

@@ -99,10 +99,10 @@ fn read_value(alloc: Global, value: &Value) -> Result<Job, JobReading>
 
 /// Reads a job.
 ///
-/// The first fault is found in this order: too many bytes, no JSON object, the least key in byte order
-/// that no job may have, and then key by key in the order of `gl_base::Key` that it is absent, of another
-/// kind or out of its range. `serde_json` says what is JSON; of a key that stands twice it keeps the last
-/// value.
+/// The first fault is found in this order: too many bytes, no JSON object, the least key in byte
+/// order that no job may have, and then key by key in the order of `gl_base::Key` that it is
+/// absent, of another kind or out of its range. `serde_json` says what is JSON; of a key that
+/// stands twice it keeps the last value.
 pub fn read_job(alloc: Global, bytes: &[u8]) -> Result<Job, JobReading>
     ensures job { IfOk result (λ j. IsJob bytes.now (job_view j)) }
     ensures ranges { IfOk result (λ j. IsInRanges (job_view j)) }

@@ -18,16 +18,18 @@ use graph_atoms::atom_gather::{AtomsReading, Cut, check_index, fault_in, gathere
 use graph_core::Graph;
 use std::alloc::Global;
 
-/// Reads the index and the atoms at a prefix, looks whether they are those of the graph, and tells how they cut it. The first fault is
-/// answered.
+/// Reads the index and the atoms at a prefix, looks whether they are those of the graph, and tells
+/// how they cut it. The first fault is answered.
 pub fn read_cut<F: Files>(
     alloc: Global,
     files: &mut F,
     prefix: &str,
     graph: &Graph,
 ) -> Result<Cut, NoInput>
-    ensures answer { LooksAtAtoms (F.state files.old) (F.state files.new).sources.faults prefix.now graph.now result }
-    ensures read { ReadsFiles (atoms_names (F.state files.old) prefix.now) (F.state files.old) (F.state files.new) }
+    ensures answer { LooksAtAtoms (F.state files.old) (F.state files.new).sources.faults
+        prefix.now graph.now result }
+    ensures read { ReadsFiles (atoms_names (F.state files.old) prefix.now)
+        (F.state files.old) (F.state files.new) }
 {
     let name = index_name(alloc, prefix)?;
     let index = read_file(alloc, files, name.as_str(), 0)?;
@@ -51,9 +53,14 @@ fn read_atoms<F: Files>(
     atoms: u16,
 ) -> Result<Vec<Vec<u8>>, NoInput>
     requires { atoms ≤ MAX_ATOMS }
-    ensures read_all { IfOk result (λ read. TakesAtoms (F.state files.old) (F.state files.new).sources.faults prefix.now atoms (Ok read.items)) }
-    ensures fault { IfErr result (λ why. TakesAtoms (F.state files.old) (F.state files.new).sources.faults prefix.now atoms (Err why)) }
-    ensures read { ReadsFiles (first_names (atom_name prefix.now) atoms) (F.state files.old) (F.state files.new) }
+    ensures read_all { IfOk result (λ read.
+        TakesAtoms (F.state files.old) (F.state files.new).sources.faults prefix.now
+        atoms (Ok read.items)) }
+    ensures fault { IfErr result (λ why.
+        TakesAtoms (F.state files.old) (F.state files.new).sources.faults
+        prefix.now atoms (Err why)) }
+    ensures read { ReadsFiles (first_names (atom_name prefix.now) atoms)
+        (F.state files.old) (F.state files.new) }
 {
     let mut read = Vec::new(alloc);
     for a in 0..atoms {
@@ -79,9 +86,13 @@ fn read_atom<F: Files>(
     atom: u16,
 ) -> Result<Vec<u8>, NoInput>
     requires { atom < MAX_ATOMS }
-    ensures answer { TakesAtom (F.state files.old) (F.state files.new).sources.faults prefix.now atom result }
-    ensures read { ReadsFiles (atom_name prefix.now atom ∷ []) (F.state files.old) (F.state files.new) }
-    ensures handed { OnOk result (AppendsNames (F.state files.old).sources.names (F.state files.new).sources.names (atom_name prefix.now atom ∷ [])) }
+    ensures answer { TakesAtom (F.state files.old) (F.state files.new).sources.faults
+        prefix.now atom result }
+    ensures read { ReadsFiles (atom_name prefix.now atom ∷ [])
+        (F.state files.old) (F.state files.new) }
+    ensures handed { OnOk result
+        (AppendsNames (F.state files.old).sources.names (F.state files.new).sources.names
+        (atom_name prefix.now atom ∷ [])) }
 {
     let name = atom_name(alloc, prefix, atom)?;
     let bytes = read_file(alloc, files, name.as_str(), atom + 1)?;
@@ -91,16 +102,20 @@ fn read_atom<F: Files>(
     }
 }
 
-/// The bytes of a file of a cut, by its number. It is refused where it has more bytes than such a file may have.
+/// The bytes of a file of a cut, by its number. It is refused where it has more bytes than such a
+/// file may have.
 fn read_file<F: Files>(
     alloc: Global,
     files: &mut F,
     name: &str,
     number: u16,
 ) -> Result<Vec<u8>, NoInput>
-    ensures answer { TakesFile (F.state files.old) (F.state files.new).sources.faults name.now number result }
+    ensures answer { TakesFile (F.state files.old) (F.state files.new).sources.faults
+        name.now number result }
     ensures read { ReadsFiles (name.now ∷ []) (F.state files.old) (F.state files.new) }
-    ensures handed { OnOk result (AppendsNames (F.state files.old).sources.names (F.state files.new).sources.names (name.now ∷ [])) }
+    ensures handed { OnOk result
+        (AppendsNames (F.state files.old).sources.names
+        (F.state files.new).sources.names (name.now ∷ [])) }
 {
     let bytes = front_of(alloc, files, name, MAX_ATOM_BYTES as usize)?;
     if bytes.len() as u64 > MAX_ATOM_BYTES {

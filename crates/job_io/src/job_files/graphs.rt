@@ -16,9 +16,13 @@ use std::alloc::Global;
 
 /// The graph of the job's two files.
 pub fn graph_of<F: Files>(alloc: Global, files: &mut F, job: &Job) -> Result<Graph, Reading>
-    ensures answer { TakesGraph (F.state files.old) (F.state files.new).sources.faults (job_view job.now).fields result }
-    ensures read { ReadsFiles (graph_names (F.state files.old) (job_view job.now).fields) (F.state files.old) (F.state files.new) }
-    ensures handed { OnOk result (AppendsNames (F.state files.old).sources.names (F.state files.new).sources.names (graph_names (F.state files.old) (job_view job.now).fields)) }
+    ensures answer { TakesGraph (F.state files.old) (F.state files.new).sources.faults
+        (job_view job.now).fields result }
+    ensures read { ReadsFiles (graph_names (F.state files.old) (job_view job.now).fields)
+        (F.state files.old) (F.state files.new) }
+    ensures handed { OnOk result
+        (AppendsNames (F.state files.old).sources.names (F.state files.new).sources.names
+        (graph_names (F.state files.old) (job_view job.now).fields)) }
 {
     let list = vertices_of(alloc, files, job.vertices.as_str())?;
     let weighted = is_weighted(job.algorithm);
@@ -41,10 +45,13 @@ fn is_weighted(algorithm: Algorithm) -> bool
 
 /// The vertices that the file of this name lists.
 fn vertices_of<F: Files>(alloc: Global, files: &mut F, name: &str) -> Result<VertexList, Reading>
-    ensures answer { TakesVertices (F.state files.old).sources.names ((F.state files.old).contents name.now)
+    ensures answer { TakesVertices (F.state files.old).sources.names
+        ((F.state files.old).contents name.now)
         (F.state files.old).sources.faults (F.state files.new).sources.faults result }
     ensures read { ReadsFiles (name.now ∷ []) (F.state files.old) (F.state files.new) }
-    ensures handed { OnOk result (AppendsNames (F.state files.old).sources.names (F.state files.new).sources.names (name.now ∷ [])) }
+    ensures handed { OnOk result
+        (AppendsNames (F.state files.old).sources.names
+        (F.state files.new).sources.names (name.now ∷ [])) }
 {
     let file = match files.open_source(name) {
         Ok(file) => file,
@@ -62,10 +69,13 @@ fn edges_of<F: Files>(
     directed: bool,
     weighted: bool,
 ) -> Result<Graph, Reading>
-    ensures answer { TakesEdges directed weighted list.ids.items (F.state files.old).sources.names ((F.state files.old).contents name.now)
+    ensures answer { TakesEdges directed weighted list.ids.items (F.state files.old).sources.names
+        ((F.state files.old).contents name.now)
         (F.state files.old).sources.faults (F.state files.new).sources.faults result }
     ensures read { ReadsFiles (name.now ∷ []) (F.state files.old) (F.state files.new) }
-    ensures handed { OnOk result (AppendsNames (F.state files.old).sources.names (F.state files.new).sources.names (name.now ∷ [])) }
+    ensures handed { OnOk result
+        (AppendsNames (F.state files.old).sources.names
+        (F.state files.new).sources.names (name.now ∷ [])) }
 {
     let file = match files.open_source(name) {
         Ok(file) => file,

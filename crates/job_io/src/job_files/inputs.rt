@@ -36,8 +36,8 @@ pub struct Input {
 /// Why a job or its graph was not read.
 #[derive(Drop)]
 pub enum NoInput {
-    /// The job is refused: its bytes are no job, it lacks a key that the verb needs, a key does not go with its algorithm, or its
-    /// source is no vertex of the graph.
+    /// The job is refused: its bytes are no job, it lacks a key that the verb needs, a key does not
+    /// go with its algorithm, or its source is no vertex of the graph.
     BadJob(JobFault),
     /// A graph text is refused.
     BadGraph(TextFault),
@@ -92,18 +92,24 @@ impl From<gl_base::NoMemory> for NoInput {
     }
 }
 
-/// Reads the job in the file of this name and the graph that it names. The job's file is looked at first, then what it says
-/// and the key that the verb needs, then, unless the verb cuts the graph, whether each key goes with the algorithm, then the vertex
-/// text, the edge text, and last whether the source that the algorithm needs is a vertex. The graph is cut by its growth into as many atoms as the job says.
+/// Reads the job in the file of this name and the graph that it names. The job's file is looked at
+/// first, then what it says and the key that the verb needs, then, unless the verb cuts the graph,
+/// whether each key goes with the algorithm, then the vertex text, the edge text, and last whether
+/// the source that the algorithm needs is a vertex. The graph is cut by its growth into as many
+/// atoms as the job says.
 pub fn read_input<F: Files>(
     alloc: Global,
     files: &mut F,
     file: &str,
     verb: JobVerb,
 ) -> Result<Input, NoInput>
-    ensures answer { IsInput verb (F.state files.old) (F.state files.new).sources.faults file.now result }
-    ensures read { ReadsFiles (names_of verb (F.state files.old) file.now) (F.state files.old) (F.state files.new) }
-    ensures handed { OnOk result (AppendsNames (F.state files.old).sources.names (F.state files.new).sources.names (names_of verb (F.state files.old) file.now)) }
+    ensures answer { IsInput verb (F.state files.old)
+        (F.state files.new).sources.faults file.now result }
+    ensures read { ReadsFiles (names_of verb (F.state files.old) file.now)
+        (F.state files.old) (F.state files.new) }
+    ensures handed { OnOk result
+        (AppendsNames (F.state files.old).sources.names (F.state files.new).sources.names
+        (names_of verb (F.state files.old) file.now)) }
     ensures cut { IfOk result (λ input. input.cut ≡ Grown input.job.atoms) }
 {
     let job = job_of(alloc, files, file, verb)?;
@@ -117,21 +123,24 @@ pub fn read_input<F: Files>(
     }
 }
 
-/// Reads the job in the file of this name and the graph that it names, as `read_input` does, and then, where the job names
-/// a prefix of atoms, the index there and the atoms of its number. They are refused where they are not those of the graph
-/// under any assignment of its vertices; else the graph is cut by that assignment, into as many atoms as the index says.
+/// Reads the job in the file of this name and the graph that it names, as `read_input` does, and
+/// then, where the job names a prefix of atoms, the index there and the atoms of its number. They
+/// are refused where they are not those of the graph under any assignment of its vertices; else the
+/// graph is cut by that assignment, into as many atoms as the index says.
 pub fn read_run_input<F: Files>(
     alloc: Global,
     files: &mut F,
     file: &str,
     verb: JobVerb,
 ) -> Result<Input, NoInput>
-    ensures answer { IsRunInput verb (F.state files.old) (F.state files.new).sources.faults file.now result }
+    ensures answer { IsRunInput verb (F.state files.old)
+        (F.state files.new).sources.faults file.now result }
     ensures frame { ChangesSources (F.state files.old) (F.state files.new) }
     ensures handed { HandsForRun verb (F.state files.old) (F.state files.new) file.now }
     ensures refused { RefusesEarly verb file.now (F.state files.old) (F.state files.new) result }
     ensures later { (F.state files.old).sources.faults ≤ (F.state files.new).sources.faults }
-    ensures cut { IfOk result (λ input. IsCutOf (F.state files.old) (job_view input.job).fields input.graph input.cut) }
+    ensures cut { IfOk result (λ input.
+        IsCutOf (F.state files.old) (job_view input.job).fields input.graph input.cut) }
 {
     let input = read_input(alloc, files, file, verb)?;
     match cut_of(alloc, files, &input) {
@@ -140,10 +149,13 @@ pub fn read_run_input<F: Files>(
     }
 }
 
-/// How a run of the job cuts the graph: by the atoms at the prefix that the job names, if it names one.
+/// How a run of the job cuts the graph: by the atoms at the prefix that the job names, if it names
+/// one.
 fn cut_of<F: Files>(alloc: Global, files: &mut F, input: &Input) -> Result<Cut, NoInput>
-    ensures answer { TakesNamedAtoms input.now.job.atoms_at input.now.job.atoms (F.state files.old) (F.state files.new).sources.faults input.now.graph result }
-    ensures read { ReadsFiles (named_atoms (F.state files.old) input.now.job.atoms_at) (F.state files.old) (F.state files.new) }
+    ensures answer { TakesNamedAtoms input.now.job.atoms_at input.now.job.atoms (F.state files.old)
+        (F.state files.new).sources.faults input.now.graph result }
+    ensures read { ReadsFiles (named_atoms (F.state files.old) input.now.job.atoms_at)
+        (F.state files.old) (F.state files.new) }
 {
     match &input.job.atoms_at {
         None => Ok(Cut::Grown(input.job.atoms)),

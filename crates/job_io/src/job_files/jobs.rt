@@ -29,7 +29,8 @@ pub enum JobVerb {
 /// Why there is no job.
 #[derive(Drop)]
 pub enum NoJob {
-    /// The bytes are no job, it lacks a key that the verb needs, or a key does not go with its algorithm.
+    /// The bytes are no job, it lacks a key that the verb needs, or a key does not go with its
+    /// algorithm.
     Refused(JobFault),
     /// Its file could not be read.
     ReadFault,
@@ -59,17 +60,21 @@ impl From<JobReading> for NoJob {
     }
 }
 
-/// The job that the file of this name says. It is refused where its bytes are no job, where it lacks a key that the verb
-/// needs, and, unless the verb cuts the graph, where a key does not go with its algorithm.
+/// The job that the file of this name says. It is refused where its bytes are no job, where it
+/// lacks a key that the verb needs, and, unless the verb cuts the graph, where a key does not go
+/// with its algorithm.
 pub fn job_of<F: Files>(
     alloc: Global,
     files: &mut F,
     name: &str,
     verb: JobVerb,
 ) -> Result<Job, NoJob>
-    ensures answer { TakesJob verb (F.state files.old) (F.state files.new).sources.faults name.now result }
+    ensures answer { TakesJob verb (F.state files.old)
+        (F.state files.new).sources.faults name.now result }
     ensures read { ReadsFiles (name.now ∷ []) (F.state files.old) (F.state files.new) }
-    ensures handed { OnOk result (AppendsNames (F.state files.old).sources.names (F.state files.new).sources.names (name.now ∷ [])) }
+    ensures handed { OnOk result
+        (AppendsNames (F.state files.old).sources.names
+        (F.state files.new).sources.names (name.now ∷ [])) }
 {
     let bytes = front_of(alloc, files, name, MAX_JOB_BYTES)?;
     let job = read_job(alloc, &bytes)?;
@@ -79,7 +84,8 @@ pub fn job_of<F: Files>(
     }
 }
 
-/// Why the verb can't do the job: it lacks the key that the verb needs, or a key does not go with its algorithm.
+/// Why the verb can't do the job: it lacks the key that the verb needs, or a key does not go with
+/// its algorithm.
 fn refused(job: &Job, verb: JobVerb) -> Option<JobFault>
     ensures { doable verb (job_view job.now) ≡ said_unless (job_view job.now) result }
 {

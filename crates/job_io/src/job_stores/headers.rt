@@ -9,7 +9,8 @@ use gl_base::{Algorithm, Job};
 use graph_core::{Graph, digest};
 use store::store_format::{Digest, Header};
 
-/// What the store of a job on its graph is for: the machines and the program of the job, and the graph.
+/// What the store of a job on its graph is for: the machines and the program of the job, and the
+/// graph.
 pub fn header_of(job: &Job, graph: &Graph) -> Header
     requires { HasNumbers (job_view job.now).fields }
     ensures header { result ≡ header_for (job_view job.now).fields graph.now }

@@ -19,13 +19,18 @@ pub enum NoStore {
     NoMemory,
 }
 
-/// Makes a store without snapshots in the file of this name, which is made where it is missing: a file that has bytes is refused
-/// by `NotEmpty`, and stays as it is. After `Ok` the header and a closed gate are on the disk. After `DiskFault` a file that had no
-/// bytes may have any, and after `NoMemory` each has what it had.
+/// Makes a store without snapshots in the file of this name, which is made where it is missing: a
+/// file that has bytes is refused by `NotEmpty`, and stays as it is. After `Ok` the header and a
+/// closed gate are on the disk. After `DiskFault` a file that had no bytes may have any, and after
+/// `NoMemory` each has what it had.
 pub fn make_store<F: Files>(files: &mut F, name: &str, header: &Header) -> Result<(), NoStore>
     requires { IsAllowed header.now }
-    ensures made { OnOk result (IfDisksTold F.disks_told (F.state files.old) (IsNewStore header.now ((F.state files.old).pasts name.now) ((F.state files.new).pasts name.now))) }
-    ensures fault { IfErr result (IsWhyNoStore F.disks_told name.now (F.state files.old) (F.state files.new)) }
+    ensures made { OnOk result
+        (IfDisksTold F.disks_told (F.state files.old)
+        (IsNewStore header.now ((F.state files.old).pasts name.now)
+        ((F.state files.new).pasts name.now))) }
+    ensures fault { IfErr result
+        (IsWhyNoStore F.disks_told name.now (F.state files.old) (F.state files.new)) }
     ensures kept { KeepsFilledDisks F.disks_told (F.state files.old) (F.state files.new) }
     ensures used { UsesDisk name.now (F.state files.old) (F.state files.new) }
 {
@@ -39,9 +44,12 @@ pub fn make_store<F: Files>(files: &mut F, name: &str, header: &Header) -> Resul
 /// Makes a store without snapshots on a disk that has no bytes.
 fn make_on<D: Disk>(disk: &mut D, header: &Header) -> Result<(), NoStore>
     requires { IsAllowed header.now }
-    ensures made { IsTrue D.told → OnOk result (IsNewStore header.now (D.past disk.old) (D.past disk.new)) }
-    ensures fault { IfErr result (IsRefusedBy (IsTrue D.told) (D.past disk.old) (D.faults disk.old) (D.faults disk.new)) }
-    ensures kept { IsTrue D.told → 0 < length (D.past disk.old).now.seen → D.past disk.new ≡ D.past disk.old }
+    ensures made { IsTrue D.told →
+        OnOk result (IsNewStore header.now (D.past disk.old) (D.past disk.new)) }
+    ensures fault { IfErr result
+        (IsRefusedBy (IsTrue D.told) (D.past disk.old) (D.faults disk.old) (D.faults disk.new)) }
+    ensures kept { IsTrue D.told → 0 < length (D.past disk.old).now.seen →
+        D.past disk.new ≡ D.past disk.old }
     ensures same { D.same disk.old disk.new }
     ensures later { D.faults disk.old ≤ D.faults disk.new }
 {

@@ -15,7 +15,8 @@ use std::alloc::Global;
 pub enum Words {
     /// Run the job in `file`, and tell how it went where `report` is set.
     Run { file: Name, report: bool },
-    /// Go on with the run of the job in `file` from its store, and tell how it went where `report` is set.
+    /// Go on with the run of the job in `file` from its store, and tell how it went where `report`
+    /// is set.
     Resume { file: Name, report: bool },
     /// Make a graph by `plan`, in the files whose names begin with `prefix`.
     Make { prefix: Name, plan: MakePlan },
@@ -30,8 +31,8 @@ pub type WordsReading = OrNoMemory<UsageFault>;
 
 /// Reads the words of the command line, the program's own name not among them.
 ///
-/// The first fault is found in this order: the form of the words one by one, whether they are a line
-/// (two texts, each option once and with a value), and then what the line means.
+/// The first fault is found in this order: the form of the words one by one, whether they are a
+/// line (two texts, each option once and with a value), and then what the line means.
 pub fn read_words(alloc: Global, words: &[String]) -> Result<Words, WordsReading>
     requires { length words.now < 4294967295 }
     ensures asked { IfOk result (IsCommandLine (texts words.now)) }

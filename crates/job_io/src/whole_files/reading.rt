@@ -47,10 +47,13 @@ pub fn front_of<F: Files>(
     name: &str,
     most: usize,
 ) -> Result<Vec<u8>, NotRead>
-    ensures answer { ReadsFront most (F.state files.old).sources.names ((F.state files.old).contents name.now)
+    ensures answer { ReadsFront most (F.state files.old).sources.names
+        ((F.state files.old).contents name.now)
         (F.state files.old).sources.faults (F.state files.new).sources.faults result }
     ensures read { ReadsFiles (name.now ∷ []) (F.state files.old) (F.state files.new) }
-    ensures handed { OnOk result (AppendsNames (F.state files.old).sources.names (F.state files.new).sources.names (name.now ∷ [])) }
+    ensures handed { OnOk result
+        (AppendsNames (F.state files.old).sources.names
+        (F.state files.new).sources.names (name.now ∷ [])) }
 {
     let file = files.open_source(name)?;
     read_front(alloc, &mut SourceOf::new(files, file), most)
@@ -58,7 +61,8 @@ pub fn front_of<F: Files>(
 
 /// The bytes of a source, or more than `most` of them where there are more.
 fn read_front<S: Source>(alloc: Global, source: &mut S, most: usize) -> Result<Vec<u8>, NotRead>
-    ensures answer { ReadsFront most None (S.left source.old) (S.faults source.old) (S.faults source.new) result }
+    ensures answer { ReadsFront most None (S.left source.old) (S.faults source.old)
+        (S.faults source.new) result }
     ensures later { S.faults source.old ≤ S.faults source.new }
     ensures same { S.same source.old source.new }
 {

@@ -11,16 +11,22 @@ ghost use Rattle.job_io.specs.whole_files.Leaves.{KeepsOrGives, writing_of};
 use gl_outside::{Files, OpenFault, Sink, SinkOf, write_all};
 use graph_text::generate::Writing;
 
-/// Makes the file of this name, or empties it, and writes the bytes. Where it fails the file is what it was, or has a front
-/// of the bytes.
+/// Makes the file of this name, or empties it, and writes the bytes. Where it fails the file is
+/// what it was, or has a front of the bytes.
 pub fn write_file<F: Files>(files: &mut F, name: &str, bytes: &[u8]) -> Result<(), Writing>
-    ensures written { OnOk result (IfSome (F.state files.old).sinks.names (λ names. (F.state files.new).contents name.now ≡ Some bytes.now)) }
-    ensures front { KeepsOrGives (F.state files.old).sinks.names ((F.state files.old).contents name.now) ((F.state files.new).contents name.now)
+    ensures written { OnOk result (IfSome (F.state files.old).sinks.names (λ names.
+        (F.state files.new).contents name.now ≡ Some bytes.now)) }
+    ensures front { KeepsOrGives (F.state files.old).sinks.names
+        ((F.state files.old).contents name.now) ((F.state files.new).contents name.now)
         (λ held. (count : ℕ) × (held ≡ take count bytes.now)) }
-    ensures fault { result ≡ Err WriteFault → Rose (F.state files.old).sinks.faults (F.state files.new).sinks.faults }
-    ensures no_memory { result ≡ Err NoMemory → (F.state files.new).contents ≡ (F.state files.old).contents }
+    ensures fault { result ≡ Err WriteFault →
+        Rose (F.state files.old).sinks.faults (F.state files.new).sinks.faults }
+    ensures no_memory { result ≡ Err NoMemory →
+        (F.state files.new).contents ≡ (F.state files.old).contents }
     ensures wrote { WritesFiles (name.now ∷ []) (F.state files.old) (F.state files.new) }
-    ensures handed { OnOk result (AppendsNames (F.state files.old).sinks.names (F.state files.new).sinks.names (name.now ∷ [])) }
+    ensures handed { OnOk result
+        (AppendsNames (F.state files.old).sinks.names
+        (F.state files.new).sinks.names (name.now ∷ [])) }
 {
     let file = match files.open_sink(name) {
         Ok(file) => file,

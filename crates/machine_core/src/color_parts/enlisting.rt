@@ -24,18 +24,21 @@ pub enum Which {
 pub fn enlist_all(lines: &mut ColorLines, numbers: &Numbers, vertices: &[Vertex], which: Which)
     requires { length lines.old.colours ≡ length numbers.now.tasks.task }
     ensures colours { lines.new.colours ≡ lines.old.colours }
-    ensures enlisted { HasEnlisted which numbers.now lines.old lines.new vertices.now (length vertices.now) }
+    ensures enlisted { HasEnlisted which numbers.now lines.old lines.new
+        vertices.now (length vertices.now) }
 {
     for place in 0..vertices.len() {
         enlist(lines, numbers, vertices[place], which);
     }
 }
 
-/// Of the vertices at the other ends of the sides of v those of this kind here that are not admitted stand in line.
+/// Of the vertices at the other ends of the sides of v those of this kind here that are not
+/// admitted stand in line.
 pub fn enlist_near(lines: &mut ColorLines, numbers: &Numbers, v: Vertex, which: Which)
     requires { length lines.old.colours ≡ length numbers.now.tasks.task }
     ensures colours { lines.new.colours ≡ lines.old.colours }
-    ensures enlisted { HasEnlisted which numbers.now lines.old lines.new (ends_of (sides_at numbers.now.local v.0)) (length (sides_at numbers.now.local v.0)) }
+    ensures enlisted { HasEnlisted which numbers.now lines.old lines.new
+        (ends_of (sides_at numbers.now.local v.0)) (length (sides_at numbers.now.local v.0)) }
 {
     enlist_along(lines, numbers, numbers.local.sides(v), which);
 }
@@ -44,7 +47,8 @@ pub fn enlist_near(lines: &mut ColorLines, numbers: &Numbers, v: Vertex, which: 
 fn enlist_along(lines: &mut ColorLines, numbers: &Numbers, sides: &[Side], which: Which)
     requires { length lines.old.colours ≡ length numbers.now.tasks.task }
     ensures colours { lines.new.colours ≡ lines.old.colours }
-    ensures enlisted { HasEnlisted which numbers.now lines.old lines.new (ends_of sides.now) (length sides.now) }
+    ensures enlisted { HasEnlisted which numbers.now lines.old lines.new
+        (ends_of sides.now) (length sides.now) }
 {
     for place in 0..sides.len() {
         enlist(lines, numbers, sides[place].other, which);
@@ -56,8 +60,12 @@ pub fn enlist(lines: &mut ColorLines, numbers: &Numbers, v: Vertex, which: Which
     requires { length lines.old.colours ≡ length numbers.now.tasks.task }
     ensures colours { lines.new.colours ≡ lines.old.colours }
     ensures kept { (u : ℕ) → is_in_line lines.old u ≡ true → is_in_line lines.new u ≡ true }
-    ensures free { (u : ℕ) → is_in_line lines.new u ≡ true → (is_in_line lines.old u ≡ true) ⊎ ((place_at numbers.now.local v.0 ≡ Some u) × (is_free_such which numbers.now.tasks u ≡ true)) }
-    ensures there { (k : ℕ) → place_at numbers.now.local v.0 ≡ Some k → k < length numbers.now.tasks.task → is_free_such which numbers.now.tasks k ≡ true → is_in_line lines.new k ≡ true }
+    ensures free { (u : ℕ) → is_in_line lines.new u ≡ true → (is_in_line lines.old u ≡ true) ⊎
+        ((place_at numbers.now.local v.0 ≡ Some u) ×
+        (is_free_such which numbers.now.tasks u ≡ true)) }
+    ensures there { (k : ℕ) → place_at numbers.now.local v.0 ≡ Some k →
+        k < length numbers.now.tasks.task → is_free_such which numbers.now.tasks k ≡ true →
+        is_in_line lines.new k ≡ true }
 {
     let count = numbers.tasks.count() as usize;
     match numbers.local.place(v) {
@@ -72,7 +80,9 @@ pub fn enlist(lines: &mut ColorLines, numbers: &Numbers, v: Vertex, which: Which
 pub fn enlist_at(lines: &mut ColorLines, tasks: &TaskSet, place: Vertex, which: Which)
     requires { place.0 < length lines.old.colours }
     ensures colours { lines.new.colours ≡ lines.old.colours }
-    ensures in_line { (u : ℕ) → is_in_line lines.new u ≡ ((u == place.0 && is_free_such which tasks.now u) || is_in_line lines.old u) }
+    ensures in_line { (u : ℕ) →
+        is_in_line lines.new u ≡
+        ((u == place.0 && is_free_such which tasks.now u) || is_in_line lines.old u) }
 {
     if is_free_such(tasks, place, which) {
         lines.add(place);

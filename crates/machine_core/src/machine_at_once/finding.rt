@@ -38,8 +38,8 @@ pub fn find(core: &Core) -> Option<Found>
     }
 }
 
-/// Whether the scope of an own vertex has this machine alone, and nobody holds or waits for a lock of it. Where nobody claims a lock
-/// of the machine, none is looked at.
+/// Whether the scope of an own vertex has this machine alone, and nobody holds or waits for a lock
+/// of it. Where nobody claims a lock of the machine, none is looked at.
 fn is_free_scope(core: &Core, v: Vertex) -> bool
     requires orderly { IsOrderly core.now }
     requires own { is_own core.now.numbers.local v.0 ≡ true }

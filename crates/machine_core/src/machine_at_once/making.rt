@@ -25,8 +25,11 @@ pub fn make<P: Program>(
 ) -> Result<(), NoMemory>
     requires waits { WaitsAt numbers.old found.place found.vertex }
     requires can { CanBeMade numbers.old found.vertex }
-    requires row { IsRowIn (links_at numbers.old.local found.vertex.0) (length (sides_at numbers.old.local found.vertex.0)) }
-    ensures made { OnOk result (HasMadeHere (P.meaning program.now) numbers.old numbers.new found.vertex (Go numbers.old.local.me found.vertex ticket)) }
+    requires row { IsRowIn (links_at numbers.old.local found.vertex.0)
+        (length (sides_at numbers.old.local found.vertex.0)) }
+    ensures made { OnOk result
+        (HasMadeHere (P.meaning program.now) numbers.old numbers.new found.vertex
+        (Go numbers.old.local.me found.vertex ticket)) }
     ensures same { OnErr result (HasSameNumbers numbers.old numbers.new) }
 {
     let version = numbers.datum(found.vertex).version;
@@ -50,11 +53,19 @@ pub fn make<P: Program>(
 /// Keeps an update that was made, of the task at this place, under this ticket. It takes no memory.
 fn keep(numbers: &mut Numbers, outcome: Outcome, place: Vertex, ticket: u64) -> Spent
     requires { CanBeKept numbers.old outcome place }
-    ensures updated { HasUpdated numbers.old numbers.new outcome (Go numbers.old.local.me outcome.work.vertex ticket) }
-    ensures back { (x : ℕ) → links_at numbers.new.local x ≡ (if x == outcome.work.vertex.0 then Some outcome.work.row.links.items else links_at numbers.old.local x) }
+    ensures updated { HasUpdated numbers.old numbers.new outcome
+        (Go numbers.old.local.me outcome.work.vertex ticket) }
+    ensures back { (x : ℕ) →
+        links_at numbers.new.local x ≡
+        (if x == outcome.work.vertex.0 then Some outcome.work.row.links.items
+        else links_at numbers.old.local x) }
     ensures own { (x : ℕ) → is_own numbers.new.local x ≡ is_own numbers.old.local x }
     ensures edges { length numbers.new.local.numbers ≡ length numbers.old.local.numbers }
-    ensures local { numbers.new.local ≡ record numbers.old.local { kept = numbers.new.local.kept; rows = numbers.new.local.rows; numbers = numbers.new.local.numbers } }
+    ensures local { numbers.new.local ≡ record numbers.old.local {
+      kept = numbers.new.local.kept;
+      rows = numbers.new.local.rows;
+      numbers = numbers.new.local.numbers;
+    } }
     ensures ghosts { numbers.new.ghosts ≡ numbers.old.ghosts }
     ensures run { HasRunOne numbers.old numbers.new }
 {

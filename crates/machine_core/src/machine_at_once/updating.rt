@@ -10,10 +10,11 @@ use gl_base::{NoMemory, Refused, Vertex};
 use std::alloc::Global;
 use update_api::Program;
 
-/// Updates the vertex that the tasks pick, where it is not pending, its scope has this machine alone, and nobody holds or waits for
-/// a lock of it: as if a scope of it were admitted, took each lock in turn and made its update. It touches no lock and sends no
-/// message. It is logged under the ticket. A log that holds as many updates as it may is want of memory too, and so is it that the
-/// version of the vertex can't count one more, or that no serial is left.
+/// Updates the vertex that the tasks pick, where it is not pending, its scope has this machine
+/// alone, and nobody holds or waits for a lock of it: as if a scope of it were admitted, took each
+/// lock in turn and made its update. It touches no lock and sends no message. It is logged under
+/// the ticket. A log that holds as many updates as it may is want of memory too, and so is it that
+/// the version of the vertex can't count one more, or that no serial is left.
 #[tactic(auto, using(crate::proofs::machine_at_once::Scopes::can_update))]
 pub fn update_at_once<P: Program>(
     alloc: Global,
@@ -25,7 +26,8 @@ pub fn update_at_once<P: Program>(
     requires orderly { IsOrderly core.old }
     requires places { KnowsPlaces core.old }
     requires rows { HasEachRow core.old.numbers.local }
-    ensures updated { IfOk result (λ v. HasUpdatedPick (P.meaning program.now) core.old core.new v ticket) }
+    ensures updated { IfOk result (λ v.
+        HasUpdatedPick (P.meaning program.now) core.old core.new v ticket) }
     ensures run { OnOk result (HasRunAtOnce core.old.numbers.tasks core.new.numbers.tasks) }
     ensures not_now { IsErrOf result Refused.NotNow → CanNotUpdatePick core.old }
     ensures refused { IsErrOf result Refused.NotNow → HasNoneAtOnce core.old }
@@ -35,9 +37,12 @@ pub fn update_at_once<P: Program>(
     ensures tasks { OnErr result (core.new.numbers.tasks ≡ core.old.numbers.tasks) }
     ensures rows { HasEachRow core.new.numbers.local }
     ensures own { (x : ℕ) → is_own core.new.numbers.local x ≡ is_own core.old.numbers.local x }
-    ensures marks { (x : ℕ) → (datum_here core.new.numbers x).mark ≡ (datum_here core.old.numbers x).mark }
-    ensures local { let old = core.old.numbers.local in let new = core.new.numbers.local in new ≡ record old { kept = new.kept; rows = new.rows; numbers = new.numbers } }
-    ensures links { (x : ℕ) → links_at core.new.numbers.local x ≡ links_at core.old.numbers.local x }
+    ensures marks { (x : ℕ) →
+        (datum_here core.new.numbers x).mark ≡ (datum_here core.old.numbers x).mark }
+    ensures local { let old = core.old.numbers.local in let new = core.new.numbers.local in
+        new ≡ record old { kept = new.kept; rows = new.rows; numbers = new.numbers } }
+    ensures links { (x : ℕ) →
+        links_at core.new.numbers.local x ≡ links_at core.old.numbers.local x }
     ensures orderly { IsOrderly core.new }
     ensures places { KnowsPlaces core.new }
     ensures settings { SameSettings core.old core.new }

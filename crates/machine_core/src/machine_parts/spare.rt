@@ -4,7 +4,8 @@ ghost use Rattle.std.specs.Prelude.{◌≡◌, IfOk};
 use gl_base::{NoMemory, Vertex};
 use std::alloc::Global;
 
-/// Lists of vertices that scopes have left behind. The next scopes that come take them, so that in the long run none is made.
+/// Lists of vertices that scopes have left behind. The next scopes that come take them, so that in
+/// the long run none is made.
 #[derive(Drop)]
 pub struct SpareParts {
     lists: Vec<Vec<Vertex>>,

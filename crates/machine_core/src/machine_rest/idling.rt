@@ -6,8 +6,9 @@ use crate::machine_parts::Core;
 use crate::machine_rest::scopes::somebody_waits;
 use crate::machine_rest::tasks::has_work;
 
-/// Whether no vertex is a task or pending, no scope of this machine is in flight, and nobody waits for one of its locks. Whoever
-/// waits has come, so it looks at no lock where no scope has. It looks at each vertex where all else is at rest.
+/// Whether no vertex is a task or pending, no scope of this machine is in flight, and nobody waits
+/// for one of its locks. Whoever waits has come, so it looks at no lock where no scope has. It
+/// looks at each vertex where all else is at rest.
 pub fn is_idle(core: &Core) -> bool
     requires orderly { IsOrderly core.now }
     requires places { KnowsPlaces core.now }

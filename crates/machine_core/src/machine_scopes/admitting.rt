@@ -8,9 +8,10 @@ use crate::machine_scopes::starting::{prepare, set_out};
 use gl_base::{NoMemory, Refused, ScopeId};
 use std::alloc::Global;
 
-/// Admits a scope of the vertex that the tasks pick, where fewer scopes are in flight than may be: it asks for its first lock here,
-/// or sets out to the first machine of its scope. There is no memory for it also where no serial is left, or where it would come here
-/// and as many scopes have come as may.
+/// Admits a scope of the vertex that the tasks pick, where fewer scopes are in flight than may be:
+/// it asks for its first lock here, or sets out to the first machine of its scope. There is no
+/// memory for it also where no serial is left, or where it would come here and as many scopes have
+/// come as may.
 pub fn admit(alloc: Global, core: &mut Core) -> Result<ScopeId, Refused>
     requires orderly { IsOrderly core.old }
     requires places { KnowsPlaces core.old }

@@ -9,8 +9,9 @@ use gl_base::{MachineNo, Mode, ScopeId, Vertex};
 use scope_locks::scope_pipe::Next;
 use std::alloc::Global;
 
-/// The scope of this centre has come, and has the machines `rest` still to come: it asks for its locks here, or goes on at once
-/// where there is none. Scopes take locks at the machine. Where there is not enough memory, or as many scopes have come as may,
+/// The scope of this centre has come, and has the machines `rest` still to come: it asks for its
+/// locks here, or goes on at once where there is none. Scopes take locks at the machine. Where
+/// there is not enough memory, or as many scopes have come as may,
 /// `rest` comes back.
 pub fn receive_ask(
     alloc: Global,
@@ -26,10 +27,17 @@ pub fn receive_ask(
     ensures orderly { IsOrderly core.new }
     ensures settings { SameSettings core.old core.new }
     ensures place { OnOk result (come core.old.pipe < 4096) }
-    ensures received { OnOk result (HasReceivedMessage core.old core.new (Ask scope centre.0 (machine_numbers rest.items))) }
+    ensures received { OnOk result
+        (HasReceivedMessage core.old core.new (Ask scope centre.0 (machine_numbers rest.items))) }
     ensures back { IfErr result (λ same. same ≡ rest) }
-    ensures rest { core.new ≡ record core.old { pipe = core.new.pipe; locks = core.new.locks; out = core.new.out; spare = core.new.spare } }
-    ensures unchanged { OnErr result (HasOnlyMadeRoom core.old core.new × (part_of core.new ≡ part_of core.old)) }
+    ensures rest { core.new ≡ record core.old {
+      pipe = core.new.pipe;
+      locks = core.new.locks;
+      out = core.new.out;
+      spare = core.new.spare;
+    } }
+    ensures unchanged { OnErr result (HasOnlyMadeRoom core.old core.new ×
+        (part_of core.new ≡ part_of core.old)) }
 {
     if !core.pipe.has_place() {
         return Err(rest);
@@ -64,8 +72,14 @@ pub fn come_here(
     requires room { HasNextRoom core.old scope next }
     ensures orderly { IsOrderly core.new }
     ensures settings { SameSettings core.old core.new }
-    ensures received { HasReceivedMessage core.old core.new (Ask scope centre.0 (machine_numbers rest.items)) }
-    ensures rest { core.new ≡ record core.old { pipe = core.new.pipe; locks = core.new.locks; out = core.new.out; spare = core.new.spare } }
+    ensures received { HasReceivedMessage core.old core.new
+        (Ask scope centre.0 (machine_numbers rest.items)) }
+    ensures rest { core.new ≡ record core.old {
+      pipe = core.new.pipe;
+      locks = core.new.locks;
+      out = core.new.out;
+      spare = core.new.spare;
+    } }
 {
     core.pipe.enter(scope, centre, part, rest);
     go_on(core, scope, next);

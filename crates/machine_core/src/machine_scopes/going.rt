@@ -49,7 +49,12 @@ pub fn go_on(core: &mut Core, scope: ScopeId, next: Next)
     ensures orderly { IsOrderly core.new }
     ensures settings { SameSettings core.old core.new }
     ensures went { HasGoneOn core.old core.new scope }
-    ensures rest { core.new ≡ record core.old { pipe = core.new.pipe; locks = core.new.locks; out = core.new.out; spare = core.new.spare } }
+    ensures rest { core.new ≡ record core.old {
+      pipe = core.new.pipe;
+      locks = core.new.locks;
+      out = core.new.out;
+      spare = core.new.spare;
+    } }
 {
     match next {
         Next::Lock(y, mode) => ask_for(core, scope, y, mode),
@@ -68,7 +73,12 @@ fn ask_for(core: &mut Core, scope: ScopeId, y: Vertex, mode: Mode)
     ensures orderly { IsOrderly core.new }
     ensures settings { SameSettings core.old core.new }
     ensures went { HasGoneOn core.old core.new scope }
-    ensures rest { core.new ≡ record core.old { pipe = core.new.pipe; locks = core.new.locks; out = core.new.out; spare = core.new.spare } }
+    ensures rest { core.new ≡ record core.old {
+      pipe = core.new.pipe;
+      locks = core.new.locks;
+      out = core.new.out;
+      spare = core.new.spare;
+    } }
 {
     core.pipe.advance(scope);
     core.locks.request(y, Claim { scope, mode });
@@ -83,7 +93,12 @@ fn go_away(core: &mut Core, scope: ScopeId, to: MachineNo)
     ensures orderly { IsOrderly core.new }
     ensures settings { SameSettings core.old core.new }
     ensures went { HasGoneOn core.old core.new scope }
-    ensures rest { core.new ≡ record core.old { pipe = core.new.pipe; locks = core.new.locks; out = core.new.out; spare = core.new.spare } }
+    ensures rest { core.new ≡ record core.old {
+      pipe = core.new.pipe;
+      locks = core.new.locks;
+      out = core.new.out;
+      spare = core.new.spare;
+    } }
 {
     let Left {
         centre,
@@ -111,7 +126,12 @@ fn go_home(core: &mut Core, scope: ScopeId)
     ensures orderly { IsOrderly core.new }
     ensures settings { SameSettings core.old core.new }
     ensures went { HasGoneOn core.old core.new scope }
-    ensures rest { core.new ≡ record core.old { pipe = core.new.pipe; locks = core.new.locks; out = core.new.out; spare = core.new.spare } }
+    ensures rest { core.new ≡ record core.old {
+      pipe = core.new.pipe;
+      locks = core.new.locks;
+      out = core.new.out;
+      spare = core.new.spare;
+    } }
 {
     let me = core.numbers.local.me();
     let Left { part, .. } = core.pipe.leave(scope);

@@ -9,27 +9,35 @@ use gl_base::{Claim, Refused, ScopeId, Vertex};
 use scope_locks::scope_pipe::Next;
 use scope_locks::vertex_locks::Turn;
 
-/// A scope that got a lock, and what it went on to: the lock of another vertex here, the next machine, or home.
+/// A scope that got a lock, and what it went on to: the lock of another vertex here, the next
+/// machine, or home.
 #[derive(Clone, Copy)]
 pub struct Moved {
     pub scope: ScopeId,
     pub next: Next,
 }
 
-/// The first that waits for the lock of x holds it and goes on, where it goes together with each holder: it asks for the next
-/// lock of its scope here, or leaves.
+/// The first that waits for the lock of x holds it and goes on, where it goes together with each
+/// holder: it asks for the next lock of its scope here, or leaves.
 #[inline(always)]
 pub fn grant(core: &mut Core, x: Vertex) -> Result<Moved, Refused>
     requires { IsOrderly core.old }
     ensures orderly { IsOrderly core.new }
     ensures settings { SameSettings core.old core.new }
-    ensures granted { IfOk result (λ moved. MayGrantLock core.old x.0 × HasGrantedLock core.old core.new x.0) }
+    ensures granted { IfOk result (λ moved. MayGrantLock core.old x.0 ×
+        HasGrantedLock core.old core.new x.0) }
     ensures scope { IfOk result (λ moved. WaitsFirst core.old x.0 moved.scope) }
     ensures next { IfOk result (λ moved. WantedNext core.old moved.scope moved.next) }
     ensures not_now { IsErrOf result Refused.NotNow → MayNotGrantLock core.old x.0 }
     ensures no_memory { IsErrOf result Refused.NoMemory → MayGrantLock core.old x.0 }
-    ensures rest { core.new ≡ record core.old { pipe = core.new.pipe; locks = core.new.locks; out = core.new.out; spare = core.new.spare } }
-    ensures unchanged { OnErr result (HasOnlyMadeRoom core.old core.new × (part_of core.new ≡ part_of core.old)) }
+    ensures rest { core.new ≡ record core.old {
+      pipe = core.new.pipe;
+      locks = core.new.locks;
+      out = core.new.out;
+      spare = core.new.spare;
+    } }
+    ensures unchanged { OnErr result (HasOnlyMadeRoom core.old core.new ×
+        (part_of core.new ≡ part_of core.old)) }
 {
     if !core.locks.owns(x) {
         return Err(Refused::NotNow);
@@ -40,8 +48,9 @@ pub fn grant(core: &mut Core, x: Vertex) -> Result<Moved, Refused>
     }
 }
 
-/// The first that waits for the lock of x holds it, where it goes together with each holder, and goes on; and then it is granted one
-/// lock after another for which it asks here, where nobody else claims that.
+/// The first that waits for the lock of x holds it, where it goes together with each holder, and
+/// goes on; and then it is granted one lock after another for which it asks here, where nobody else
+/// claims that.
 pub fn grant_in_turn(core: &mut Core, x: Vertex) -> Result<ScopeId, Refused>
     requires { IsOrderly core.old }
     ensures orderly { IsOrderly core.new }
@@ -50,8 +59,14 @@ pub fn grant_in_turn(core: &mut Core, x: Vertex) -> Result<ScopeId, Refused>
     ensures scope { IfOk result (λ scope. WaitsFirst core.old x.0 scope) }
     ensures not_now { IsErrOf result Refused.NotNow → MayNotGrantLock core.old x.0 }
     ensures no_memory { IsErrOf result Refused.NoMemory → MayGrantLock core.old x.0 }
-    ensures rest { core.new ≡ record core.old { pipe = core.new.pipe; locks = core.new.locks; out = core.new.out; spare = core.new.spare } }
-    ensures unchanged { OnErr result (HasOnlyMadeRoom core.old core.new × (part_of core.new ≡ part_of core.old)) }
+    ensures rest { core.new ≡ record core.old {
+      pipe = core.new.pipe;
+      locks = core.new.locks;
+      out = core.new.out;
+      spare = core.new.spare;
+    } }
+    ensures unchanged { OnErr result (HasOnlyMadeRoom core.old core.new ×
+        (part_of core.new ≡ part_of core.old)) }
 {
     if !core.locks.owns(x) {
         return Err(Refused::NotNow);
@@ -62,7 +77,8 @@ pub fn grant_in_turn(core: &mut Core, x: Vertex) -> Result<ScopeId, Refused>
     }
 }
 
-/// A vertex whose lock may be granted, and `None` exactly where there is none. It takes no memory, and no claim changes.
+/// A vertex whose lock may be granted, and `None` exactly where there is none. It takes no memory,
+/// and no claim changes.
 #[inline(always)]
 pub fn next_grant(core: &mut Core) -> Option<Vertex>
     requires { IsOrderly core.old }
@@ -73,7 +89,8 @@ pub fn next_grant(core: &mut Core) -> Option<Vertex>
     core.locks.next_grant()
 }
 
-/// The first that waits for the lock of x, which goes together with each holder, holds it and goes on.
+/// The first that waits for the lock of x, which goes together with each holder, holds it and goes
+/// on.
 #[inline(always)]
 fn grant_first(core: &mut Core, x: Vertex, claim: Claim) -> Result<Moved, Refused>
     requires orderly { IsOrderly core.old }
@@ -86,7 +103,12 @@ fn grant_first(core: &mut Core, x: Vertex, claim: Claim) -> Result<Moved, Refuse
     ensures scope { IfOk result (λ moved. moved.scope ≡ claim.scope) }
     ensures next { IfOk result (λ moved. WantedNext core.old claim.scope moved.next) }
     ensures refused { IfErr result (λ e. e ≡ Refused.NoMemory) }
-    ensures rest { core.new ≡ record core.old { pipe = core.new.pipe; locks = core.new.locks; out = core.new.out; spare = core.new.spare } }
+    ensures rest { core.new ≡ record core.old {
+      pipe = core.new.pipe;
+      locks = core.new.locks;
+      out = core.new.out;
+      spare = core.new.spare;
+    } }
     ensures unchanged { OnErr result (HasOnlyMadeRoom core.old core.new) }
 {
     let next = core.pipe.look(claim.scope);
@@ -101,8 +123,8 @@ fn grant_first(core: &mut Core, x: Vertex, claim: Claim) -> Result<Moved, Refuse
     })
 }
 
-/// The first that waits for the lock of x, which goes together with each holder, holds it and goes on, through one lock after another
-/// that nobody claims.
+/// The first that waits for the lock of x, which goes together with each holder, holds it and goes
+/// on, through one lock after another that nobody claims.
 #[inline(always)]
 fn grant_from(core: &mut Core, x: Vertex, claim: Claim) -> Result<ScopeId, Refused>
     requires orderly { IsOrderly core.old }
@@ -114,7 +136,12 @@ fn grant_from(core: &mut Core, x: Vertex, claim: Claim) -> Result<ScopeId, Refus
     ensures granted { IfOk result (λ scope. HasGrantedInTurn core.old core.new x.0) }
     ensures scope { IfOk result (λ scope. scope ≡ claim.scope) }
     ensures refused { IfErr result (λ e. e ≡ Refused.NoMemory) }
-    ensures rest { core.new ≡ record core.old { pipe = core.new.pipe; locks = core.new.locks; out = core.new.out; spare = core.new.spare } }
+    ensures rest { core.new ≡ record core.old {
+      pipe = core.new.pipe;
+      locks = core.new.locks;
+      out = core.new.out;
+      spare = core.new.spare;
+    } }
     ensures unchanged { OnErr result (HasOnlyMadeRoom core.old core.new) }
 {
     let next = core.pipe.look(claim.scope);

@@ -17,12 +17,14 @@ pub fn take_pick(tasks: &mut TaskSet) -> Option<Pick>
     tasks.next()
 }
 
-/// What was picked is admitted no more, and waits again: a pending vertex behind the others, and a task with the least key.
+/// What was picked is admitted no more, and waits again: a pending vertex behind the others, and a
+/// task with the least key.
 pub fn put_back(tasks: &mut TaskSet, pick: Pick)
     requires within { pick.vertex.0 < length tasks.old.task }
     requires admitted { is_flagged tasks.old.admitted pick.vertex.0 ≡ true }
     requires kind { is_flagged tasks.old.pending pick.vertex.0 ≡ pick.snapshot }
-    requires due { (is_flagged tasks.old.pending pick.vertex.0 ≡ true) ⊎ (is_flagged tasks.old.task pick.vertex.0 ≡ true) }
+    requires due { (is_flagged tasks.old.pending pick.vertex.0 ≡ true) ⊎
+        (is_flagged tasks.old.task pick.vertex.0 ≡ true) }
     requires outside { tasks.old.outside < 18446744073709551615 }
     ensures back { IsPutBack tasks.old tasks.new pick.vertex.0 }
     ensures plans { IsUnplanned tasks.old tasks.new pick }

@@ -14,7 +14,8 @@ use wire::wire_msgs::Message;
 /// What a new scope sets out with.
 #[derive(Drop)]
 pub enum Start {
-    /// It comes here at once, with its vertices here and the machines still to come, and wants this first.
+    /// It comes here at once, with its vertices here and the machines still to come, and wants this
+    /// first.
     Here {
         part: Vec<Vertex>,
         rest: Vec<MachineNo>,
@@ -27,8 +28,8 @@ pub enum Start {
     },
 }
 
-/// What a new scope of v sets out with, and room for it. There is none where no serial is left for it, or where it would come here
-/// at once and as many have come as may.
+/// What a new scope of v sets out with, and room for it. There is none where no serial is left for
+/// it, or where it would come here at once and as many have come as may.
 pub fn prepare(alloc: Global, core: &mut Core, scope: ScopeId, v: Vertex) -> Result<Start, NoMemory>
     requires own { is_own core.old.numbers.local v.0 ≡ true }
     requires graph { IsGraphInOrder core.old.numbers.local (length core.old.out.machines) }
@@ -37,7 +38,11 @@ pub fn prepare(alloc: Global, core: &mut Core, scope: ScopeId, v: Vertex) -> Res
     ensures can { IfOk result (λ start. CanSetOut core.new scope v start) }
     ensures serial { OnOk result (core.old.pipe.serial < 18446744073709551615) }
     ensures same { HasOnlyMadeRoom core.old core.new }
-    ensures rest { core.new ≡ record core.old { locks = core.new.locks; out = core.new.out; spare = core.new.spare } }
+    ensures rest { core.new ≡ record core.old {
+      locks = core.new.locks;
+      out = core.new.out;
+      spare = core.new.spare;
+    } }
 {
     if !core.pipe.has_serial() {
         return Err(NoMemory);
@@ -66,10 +71,15 @@ fn prepare_here(
     requires own { is_own core.old.numbers.local v.0 ≡ true }
     requires locks { (x : ℕ) → is_owned core.old.locks x ≡ is_own core.old.numbers.local x }
     requires home { scope.home.0 < length core.old.out.machines }
-    requires machines { parts_at core.old.numbers.local v.0 ≡ core.old.numbers.local.me ∷ rest.items }
+    requires machines { parts_at core.old.numbers.local v.0 ≡
+        core.old.numbers.local.me ∷ rest.items }
     ensures can { IfOk result (λ start. CanSetOut core.new scope v start) }
     ensures same { HasOnlyMadeRoom core.old core.new }
-    ensures rest { core.new ≡ record core.old { locks = core.new.locks; out = core.new.out; spare = core.new.spare } }
+    ensures rest { core.new ≡ record core.old {
+      locks = core.new.locks;
+      out = core.new.out;
+      spare = core.new.spare;
+    } }
 {
     if !core.pipe.has_place() {
         return Err(NoMemory);
@@ -91,7 +101,12 @@ pub fn set_out(core: &mut Core, scope: ScopeId, v: Vertex, start: Start)
     ensures orderly { IsOrderly core.new }
     ensures settings { SameSettings core.old core.new }
     ensures set_out { HasSetOut core.old core.new scope v }
-    ensures rest { core.new ≡ record core.old { pipe = core.new.pipe; locks = core.new.locks; out = core.new.out; spare = core.new.spare } }
+    ensures rest { core.new ≡ record core.old {
+      pipe = core.new.pipe;
+      locks = core.new.locks;
+      out = core.new.out;
+      spare = core.new.spare;
+    } }
 {
     match start {
         Start::Here { part, rest, next } => come_here(core, scope, v, part, rest, next),

@@ -9,8 +9,8 @@ use crate::machine_scopes::going::reserve_next;
 use gl_base::{Claim, ScopeId};
 use scope_locks::scope_pipe::Next;
 
-/// A scope that is moving on takes one lock after another that it wants here, where nobody claims it and there is room for what it
-/// wants behind it. Says what it wants then.
+/// A scope that is moving on takes one lock after another that it wants here, where nobody claims
+/// it and there is room for what it wants behind it. Says what it wants then.
 #[inline(always)]
 pub fn take_free(core: &mut Core, scope: ScopeId, next: Next) -> Next
     requires orderly { IsOrderlyBut (λ s. is_scope s scope) core.old }
@@ -23,7 +23,11 @@ pub fn take_free(core: &mut Core, scope: ScopeId, next: Next) -> Next
     ensures room { HasNextRoom core.new scope result }
     ensures settings { SameSettings core.old core.new }
     ensures taken { HasTakenOn core.old core.new scope }
-    ensures rest { core.new ≡ record core.old { pipe = core.new.pipe; locks = core.new.locks; out = core.new.out } }
+    ensures rest { core.new ≡ record core.old {
+      pipe = core.new.pipe;
+      locks = core.new.locks;
+      out = core.new.out;
+    } }
 {
     let mut next = next;
     for _ in 0..u64::MAX {
@@ -48,7 +52,11 @@ fn take_next(core: &mut Core, scope: ScopeId, next: Next) -> Option<Next>
     ensures room { HasNextRoom core.new scope (wanted_then next result) }
     ensures settings { SameSettings core.old core.new }
     ensures taken { HasTakenOn core.old core.new scope }
-    ensures rest { core.new ≡ record core.old { pipe = core.new.pipe; locks = core.new.locks; out = core.new.out } }
+    ensures rest { core.new ≡ record core.old {
+      pipe = core.new.pipe;
+      locks = core.new.locks;
+      out = core.new.out;
+    } }
 {
     let Next::Lock(y, mode) = next else {
         return None;

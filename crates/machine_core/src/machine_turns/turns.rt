@@ -13,8 +13,9 @@ use scope_locks::scope_pipe::Flight;
 use std::alloc::Global;
 use update_api::Program;
 
-/// Makes the update of a ready scope of this machine, whose vertex is a task and not pending, and tells the other machines of the
-/// scope. It is logged under the ticket. A log that holds as many updates as it may is want of memory too.
+/// Makes the update of a ready scope of this machine, whose vertex is a task and not pending, and
+/// tells the other machines of the scope. It is logged under the ticket. A log that holds as many
+/// updates as it may is want of memory too.
 pub fn update<P: Program>(
     alloc: Global,
     core: &mut Core,
@@ -25,22 +26,35 @@ pub fn update<P: Program>(
 ) -> Result<(), Refused>
     requires orderly { IsOrderly core.old }
     requires rows { HasEachRow core.old.numbers.local }
-    ensures updated { OnOk result (HasMadeUpdate (P.meaning program.now) core.old core.new scope ticket) }
+    ensures updated { OnOk result
+        (HasMadeUpdate (P.meaning program.now) core.old core.new scope ticket) }
     ensures run { OnOk result (HasRunOf core.old core.new scope) }
     ensures not_now { IsErrOf result Refused.NotNow → MayUpdate scope (part_of core.old) 1 → ⊥ }
     ensures no_memory { IsErrOf result Refused.NoMemory → MayUpdate scope (part_of core.old) 1 }
     ensures same { IsErrOf result Refused.NotNow → core.new ≡ core.old }
     ensures unchanged { OnErr result (IsAsBefore core.old core.new) }
     ensures rows { HasEachRow core.new.numbers.local }
-    ensures links { (x : ℕ) → links_at core.new.numbers.local x ≡ links_at core.old.numbers.local x }
+    ensures links { (x : ℕ) →
+        links_at core.new.numbers.local x ≡ links_at core.old.numbers.local x }
     ensures own { (x : ℕ) → is_own core.new.numbers.local x ≡ is_own core.old.numbers.local x }
-    ensures marks { (x : ℕ) → (datum_here core.new.numbers x).mark ≡ (datum_here core.old.numbers x).mark }
-    ensures local { let old = core.old.numbers.local in let new = core.new.numbers.local in new ≡ record old { kept = new.kept; rows = new.rows; numbers = new.numbers } }
+    ensures marks { (x : ℕ) →
+        (datum_here core.new.numbers x).mark ≡ (datum_here core.old.numbers x).mark }
+    ensures local { let old = core.old.numbers.local in let new = core.new.numbers.local in
+        new ≡ record old { kept = new.kept; rows = new.rows; numbers = new.numbers } }
     ensures orderly { IsOrderly core.new }
     ensures places { KnowsPlaces core.old → KnowsPlaces core.new }
     ensures settings { SameSettings core.old core.new }
-    ensures pipe { core.new.pipe ≡ record core.old.pipe { waiting = core.new.pipe.waiting; ready = core.new.pipe.ready } }
-    ensures rest { core.new ≡ record core.old { numbers = core.new.numbers; pipe = core.new.pipe; locks = core.new.locks; out = core.new.out; spare = core.new.spare } }
+    ensures pipe { core.new.pipe ≡ record core.old.pipe {
+      waiting = core.new.pipe.waiting;
+      ready = core.new.pipe.ready;
+    } }
+    ensures rest { core.new ≡ record core.old {
+      numbers = core.new.numbers;
+      pipe = core.new.pipe;
+      locks = core.new.locks;
+      out = core.new.out;
+      spare = core.new.spare;
+    } }
 {
     let Some(centre) = centre_to_update(core, scope) else {
         return Err(Refused::NotNow);
@@ -70,19 +84,32 @@ fn make<P: Program>(
     requires orderly { IsOrderly core.old }
     requires rows { HasEachRow core.old.numbers.local }
     requires can { CanBeTaken core.old flight.scope flight.centre }
-    ensures made { OnOk result (HasMadeUpdate (P.meaning program.now) core.old core.new flight.scope ticket) }
+    ensures made { OnOk result
+        (HasMadeUpdate (P.meaning program.now) core.old core.new flight.scope ticket) }
     ensures run { OnOk result (HasRunOf core.old core.new flight.scope) }
     ensures unchanged { OnErr result (IsAsBefore core.old core.new) }
     ensures rows { HasEachRow core.new.numbers.local }
-    ensures links { (x : ℕ) → links_at core.new.numbers.local x ≡ links_at core.old.numbers.local x }
+    ensures links { (x : ℕ) →
+        links_at core.new.numbers.local x ≡ links_at core.old.numbers.local x }
     ensures own { (x : ℕ) → is_own core.new.numbers.local x ≡ is_own core.old.numbers.local x }
-    ensures marks { (x : ℕ) → (datum_here core.new.numbers x).mark ≡ (datum_here core.old.numbers x).mark }
-    ensures local { let old = core.old.numbers.local in let new = core.new.numbers.local in new ≡ record old { kept = new.kept; rows = new.rows; numbers = new.numbers } }
+    ensures marks { (x : ℕ) →
+        (datum_here core.new.numbers x).mark ≡ (datum_here core.old.numbers x).mark }
+    ensures local { let old = core.old.numbers.local in let new = core.new.numbers.local in
+        new ≡ record old { kept = new.kept; rows = new.rows; numbers = new.numbers } }
     ensures orderly { IsOrderly core.new }
     ensures places { KnowsPlaces core.old → KnowsPlaces core.new }
     ensures settings { SameSettings core.old core.new }
-    ensures pipe { core.new.pipe ≡ record core.old.pipe { waiting = core.new.pipe.waiting; ready = core.new.pipe.ready } }
-    ensures rest { core.new ≡ record core.old { numbers = core.new.numbers; pipe = core.new.pipe; locks = core.new.locks; out = core.new.out; spare = core.new.spare } }
+    ensures pipe { core.new.pipe ≡ record core.old.pipe {
+      waiting = core.new.pipe.waiting;
+      ready = core.new.pipe.ready;
+    } }
+    ensures rest { core.new ≡ record core.old {
+      numbers = core.new.numbers;
+      pipe = core.new.pipe;
+      locks = core.new.locks;
+      out = core.new.out;
+      spare = core.new.spare;
+    } }
 {
     let prepared = reserve_commit(alloc, core, flight.scope)?;
     let degree = core.numbers.local.sides(flight.centre).len();
@@ -103,21 +130,45 @@ fn complete<P: Program>(
 ) -> Result<(), NoMemory>
     requires orderly { IsOrderly core.old }
     requires out { IsOut core.old work }
-    requires row { IsRow work.row.links.items (length (sides_at core.old.numbers.local work.vertex.0)) }
+    requires row { IsRow work.row.links.items
+        (length (sides_at core.old.numbers.local work.vertex.0)) }
     requires reserved { IsReserved core.old work.scope work.vertex prepared.items }
-    ensures completed { OnOk result (HasCompleted (P.meaning program.now) core.old core.new work ticket) }
+    ensures completed { OnOk result
+        (HasCompleted (P.meaning program.now) core.old core.new work ticket) }
     ensures run { OnOk result (HasRunAt core.old core.new work.vertex) }
     ensures part { OnErr result (part_of core.new ≡ part_of core.old) }
-    ensures back { OnErr result (core.new ≡ record core.old { numbers = record core.old.numbers { local = record core.old.numbers.local { rows = core.new.numbers.local.rows; numbers = core.new.numbers.local.numbers } } }) }
-    ensures rows { (x : ℕ) → links_at core.new.numbers.local x ≡ (if x == work.vertex.0 then Some work.row.links.items else links_at core.old.numbers.local x) }
-    ensures local { let old = core.old.numbers.local in let new = core.new.numbers.local in new ≡ record old { kept = new.kept; rows = new.rows; numbers = new.numbers } }
+    ensures back { OnErr result
+        (core.new ≡ record core.old {
+          numbers = record core.old.numbers {
+            local = record core.old.numbers.local {
+              rows = core.new.numbers.local.rows;
+              numbers = core.new.numbers.local.numbers;
+            };
+          };
+        }) }
+    ensures rows { (x : ℕ) →
+        links_at core.new.numbers.local x ≡ (if x == work.vertex.0 then Some work.row.links.items
+        else links_at core.old.numbers.local x) }
+    ensures local { let old = core.old.numbers.local in let new = core.new.numbers.local in
+        new ≡ record old { kept = new.kept; rows = new.rows; numbers = new.numbers } }
     ensures own { (x : ℕ) → is_own core.new.numbers.local x ≡ is_own core.old.numbers.local x }
-    ensures marks { (x : ℕ) → (datum_here core.new.numbers x).mark ≡ (datum_here core.old.numbers x).mark }
+    ensures marks { (x : ℕ) →
+        (datum_here core.new.numbers x).mark ≡ (datum_here core.old.numbers x).mark }
     ensures orderly { IsOrderly core.new }
     ensures places { KnowsPlaces core.old → KnowsPlaces core.new }
-    ensures settings { (st : Setting) → IsPartOf st core.old → HasItsRow st core.old work → IsPartOf st core.new }
-    ensures pipe { core.new.pipe ≡ record core.old.pipe { waiting = core.new.pipe.waiting; ready = core.new.pipe.ready } }
-    ensures rest { core.new ≡ record core.old { numbers = core.new.numbers; pipe = core.new.pipe; locks = core.new.locks; out = core.new.out; spare = core.new.spare } }
+    ensures settings { (st : Setting) → IsPartOf st core.old →
+        HasItsRow st core.old work → IsPartOf st core.new }
+    ensures pipe { core.new.pipe ≡ record core.old.pipe {
+      waiting = core.new.pipe.waiting;
+      ready = core.new.pipe.ready;
+    } }
+    ensures rest { core.new ≡ record core.old {
+      numbers = core.new.numbers;
+      pipe = core.new.pipe;
+      locks = core.new.locks;
+      out = core.new.out;
+      spare = core.new.spare;
+    } }
 {
     match Outcome::in_list(spares.for_outcome(alloc), work) {
         Ok(mut outcome) => {

@@ -26,7 +26,8 @@ pub fn centre_to_update(core: &Core, scope: ScopeId) -> Option<Vertex>
     }
 }
 
-/// A scope of this home that may make its update now; `None` exactly where none may. It looks at the ready scopes alone.
+/// A scope of this home that may make its update now; `None` exactly where none may. It looks at
+/// the ready scopes alone.
 pub fn next_ready(core: &Core) -> Option<ScopeId>
     requires { IsOrderly core.now }
     ensures some { IfSome result (λ s. MayUpdate s (part_of core.now) 1) }

@@ -25,12 +25,13 @@ pub struct Due {
     pub spare: Spare,
 }
 
-/// Takes out every scope that is ready for an ordinary update and isn't taken yet, in the order in which they stand among the
-/// ready ones.
+/// Takes out every scope that is ready for an ordinary update and isn't taken yet, in the order in
+/// which they stand among the ready ones.
 pub fn take_batch(alloc: Global, core: &mut Core, spares: &mut Spares) -> Result<Batch, Refused>
     requires { IsOrderly core.old }
     ensures taken { IfOk result (λ batch. HasTakenAll core.old core.new batch.work.items) }
-    ensures turn { IfOk result (λ batch. AreSomeOf (scopes_of_works batch.work.items) (scopes_of_flights core.old.pipe.ready)) }
+    ensures turn { IfOk result (λ batch.
+        AreSomeOf (scopes_of_works batch.work.items) (scopes_of_flights core.old.pipe.ready)) }
     ensures none_left { OnOk result (NoneToTake core.new) }
     ensures not_now { IsErrOf result Refused.NotNow → NoneToTake core.old }
     ensures some { OnOk result (NoneToTake core.old → ⊥) }
@@ -55,8 +56,10 @@ pub fn take_batch(alloc: Global, core: &mut Core, spares: &mut Spares) -> Result
 fn list_dues(alloc: Global, core: &Core, spares: &mut Spares) -> Result<Vec<Due>, NoMemory>
     requires { IsOrderly core.now }
     ensures dues { IfOk result (λ dues. All (IsDue core.now) dues.items) }
-    ensures turn { IfOk result (λ dues. AreSomeOf (scopes_of_dues dues.items) (scopes_of_flights core.now.pipe.ready)) }
-    ensures all { IfOk result (λ dues. (s : ScopeId) (v : Vertex) → CanBeTaken core.now s v → is_due dues.items s ≡ true) }
+    ensures turn { IfOk result (λ dues.
+        AreSomeOf (scopes_of_dues dues.items) (scopes_of_flights core.now.pipe.ready)) }
+    ensures all { IfOk result (λ dues. (s : ScopeId) (v : Vertex) → CanBeTaken core.now s v →
+        is_due dues.items s ≡ true) }
 {
     let ready = core.pipe.ready_ones();
     let mut dues = Vec::new(alloc);
@@ -111,7 +114,8 @@ fn is_free(numbers: &Numbers, v: Vertex) -> bool
 fn take_all(core: &mut Core, dues: Vec<Due>, works: Vec<Work>, spares: &mut Spares) -> Vec<Work>
     requires orderly { IsOrderly core.old }
     requires dues { All (IsDue core.old) dues.items }
-    requires all { (s : ScopeId) (v : Vertex) → CanBeTaken core.old s v → is_due dues.items s ≡ true }
+    requires all { (s : ScopeId) (v : Vertex) → CanBeTaken core.old s v →
+        is_due dues.items s ≡ true }
     requires none { works.items ≡ [] }
     requires room { length dues.items ≤ vec_capacity works }
     ensures taken { HasTakenAll core.old core.new result.items }

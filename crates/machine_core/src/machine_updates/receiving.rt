@@ -11,8 +11,8 @@ use crate::lock_release::release_all;
 use crate::machine_parts::Core;
 use wire::wire_msgs::Done;
 
-/// Word of an update elsewhere has come: its numbers are kept, the vertices that it wakes are tasks, and its scope's locks here
-/// are released, where it holds any. It takes no memory.
+/// Word of an update elsewhere has come: its numbers are kept, the vertices that it wakes are
+/// tasks, and its scope's locks here are released, where it holds any. It takes no memory.
 pub fn receive_done(core: &mut Core, done: &Done)
     requires orderly { IsOrderly core.old }
     requires can { CanLearn core.old done.now }
@@ -22,10 +22,15 @@ pub fn receive_done(core: &mut Core, done: &Done)
     ensures settings { SameSettings core.old core.new }
     ensures learned { HasLearned core.old.numbers core.new.numbers (news_of done.now) }
     ensures released { HasNoLock core.old.locks core.new.locks done.now.scope }
-    ensures tasks { core.new.numbers.tasks ≡ record core.old.numbers.tasks { task = core.new.numbers.tasks.task } }
+    ensures tasks { core.new.numbers.tasks ≡
+        record core.old.numbers.tasks { task = core.new.numbers.tasks.task } }
     ensures edges { length core.new.numbers.local.numbers ≡ length core.old.numbers.local.numbers }
-    ensures local { core.new.numbers.local ≡ record core.old.numbers.local { numbers = core.new.numbers.local.numbers } }
-    ensures rest { core.new ≡ record core.old { numbers = core.new.numbers; locks = core.new.locks } }
+    ensures local { core.new.numbers.local ≡
+        record core.old.numbers.local { numbers = core.new.numbers.local.numbers } }
+    ensures rest { core.new ≡ record core.old {
+      numbers = core.new.numbers;
+      locks = core.new.locks;
+    } }
 {
     core.numbers.learn(done);
     let part = core.numbers.local.part(done.centre);

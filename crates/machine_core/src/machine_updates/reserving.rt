@@ -27,9 +27,10 @@ pub struct Prepared {
     pub done: Done,
 }
 
-/// Makes room for the commit of a scope in flight: in the log, and for what each other machine of it will be told, which it hands
-/// out. Where no other machine takes part, nothing is made but room in the log. It is want of memory too where the log has as many
-/// updates as it may, or the version of the scope's vertex can't count one more.
+/// Makes room for the commit of a scope in flight: in the log, and for what each other machine of
+/// it will be told, which it hands out. Where no other machine takes part, nothing is made but room
+/// in the log. It is want of memory too where the log has as many updates as it may, or the version
+/// of the scope's vertex can't count one more.
 pub fn reserve_commit(
     alloc: Global,
     core: &mut Core,
@@ -37,7 +38,8 @@ pub fn reserve_commit(
 ) -> Result<Vec<Prepared>, NoMemory>
     requires orderly { IsOrderly core.old }
     requires flies { is_some (flight_at core.old.pipe scope) ≡ true }
-    ensures reserved { IfOk result (λ ps. (v : Vertex) → flight_at core.old.pipe scope ≡ Some v → IsReserved core.new scope v ps.items) }
+    ensures reserved { IfOk result (λ ps. (v : Vertex) → flight_at core.old.pipe scope ≡ Some v →
+        IsReserved core.new scope v ps.items) }
     ensures same { HasOnlyMadeRoom core.old core.new }
     ensures part { part_of core.new ≡ part_of core.old }
     ensures orderly { IsOrderly core.new }
@@ -60,8 +62,8 @@ pub fn reserve_commit(
     )
 }
 
-/// Makes room for one entry more, of an update of a vertex with this version. It is want of memory too where the log has as many
-/// updates as it may, or the version can't count one more.
+/// Makes room for one entry more, of an update of a vertex with this version. It is want of memory
+/// too where the log has as many updates as it may, or the version can't count one more.
 pub fn reserve_log(log: &mut Vec<Entry>, version: u32) -> Result<(), NoMemory>
     ensures room { OnOk result (vec_len log.new < vec_capacity log.new) }
     ensures few { OnOk result (length log.new.items < 4294967295) }
@@ -75,8 +77,8 @@ pub fn reserve_log(log: &mut Vec<Entry>, version: u32) -> Result<(), NoMemory>
     Ok(())
 }
 
-/// Makes room for what each of these machines but `me` will be told of the update of a scope of v, which has so many edges, and hands
-/// it out.
+/// Makes room for what each of these machines but `me` will be told of the update of a scope of v,
+/// which has so many edges, and hands it out.
 pub fn prepare(
     alloc: Global,
     out: &mut Outboxes,
@@ -89,7 +91,8 @@ pub fn prepare(
     requires machines { All (λ b. b.0 < length out.old.machines) parts.now }
     requires apart { AllPairs (λ one other. one.0 ≢ other.0) parts.now }
     ensures can { IfOk result (λ ps. CanTell out.new scope v degree ps.items) }
-    ensures told { IfOk result (λ ps. (q : ℕ) → is_to_be_told ps.items q ≡ (list_any (λ b. b.0 == q) parts.now && not (q == me.0))) }
+    ensures told { IfOk result (λ ps. (q : ℕ) →
+        is_to_be_told ps.items q ≡ (list_any (λ b. b.0 == q) parts.now && not (q == me.0))) }
     ensures same { HaveSameMessages out.old out.new }
 {
     let mut prepared = Vec::new(alloc);
@@ -115,7 +118,8 @@ fn prepare_one(
     ensures blank { IfOk result (λ p. IsBlank p.done scope v degree) }
     ensures room { OnOk result (HasRoomToTell out.new to) }
     ensures same { HaveSameMessages out.old out.new }
-    ensures others { (b : MachineNo) → b.0 ≢ to.0 → outbox_to out.new (Machine b) ≡ outbox_to out.old (Machine b) }
+    ensures others { (b : MachineNo) → b.0 ≢ to.0 →
+        outbox_to out.new (Machine b) ≡ outbox_to out.old (Machine b) }
 {
     out.reserve(Peer::Machine(to))?;
     let done = blank_done(alloc, scope, v, degree)?;

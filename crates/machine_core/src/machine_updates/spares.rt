@@ -6,7 +6,8 @@ use gl_base::NoMemory;
 use partition::machine_numbers::{Spare, Spent};
 use std::alloc::Global;
 
-/// Lists that works have left behind. The works that are taken next get them, so that in the long run none is made.
+/// Lists that works have left behind. The works that are taken next get them, so that in the long
+/// run none is made.
 #[derive(Drop)]
 pub struct Spares {
     lists: Vec<Spare>,

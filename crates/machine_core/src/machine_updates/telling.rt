@@ -13,15 +13,21 @@ use partition::machine_numbers::Numbers;
 use wire::outboxes::Outboxes;
 use wire::wire_msgs::Message;
 
-/// Tells each of these machines of an update that was made and is not finished yet. It takes no memory.
+/// Tells each of these machines of an update that was made and is not finished yet. It takes no
+/// memory.
 pub fn tell_all(out: &mut Outboxes, numbers: &Numbers, outcome: &Outcome, prepared: Vec<Prepared>)
-    requires can { CanTell out.old outcome.now.work.scope outcome.now.work.vertex (length (sides_at numbers.now.local outcome.now.work.vertex.0)) prepared.items }
-    requires links { length outcome.now.work.row.links.items ≡ length (sides_at numbers.now.local outcome.now.work.vertex.0) }
-    requires numbers { length outcome.now.work.row.numbers.items ≡ length (sides_at numbers.now.local outcome.now.work.vertex.0) }
-    requires edges { length outcome.now.edges.items ≡ length (sides_at numbers.now.local outcome.now.work.vertex.0) }
+    requires can { CanTell out.old outcome.now.work.scope outcome.now.work.vertex
+        (length (sides_at numbers.now.local outcome.now.work.vertex.0)) prepared.items }
+    requires links { length outcome.now.work.row.links.items ≡ length
+        (sides_at numbers.now.local outcome.now.work.vertex.0) }
+    requires numbers { length outcome.now.work.row.numbers.items ≡ length
+        (sides_at numbers.now.local outcome.now.work.vertex.0) }
+    requires edges { length outcome.now.edges.items ≡ length
+        (sides_at numbers.now.local outcome.now.work.vertex.0) }
     requires version { (datum_here numbers.now outcome.now.work.vertex.0).version < 4294967295 }
     ensures told { out.new ≡ after_told (done_told numbers.now outcome.now) prepared.items out.old }
-    ensures words { (q : ℕ) → is_to_be_told prepared.items q ≡ true → HasWord numbers.now outcome.now q }
+    ensures words { (q : ℕ) → is_to_be_told prepared.items q ≡ true →
+        HasWord numbers.now outcome.now q }
 {
     for one in prepared {
         let Prepared { to, mut done } = one;

@@ -12,8 +12,8 @@ use local_graph::Work;
 use partition::machine_numbers::Spare;
 use scope_locks::scope_pipe::Flight;
 
-/// Takes out a scope that is ready for an ordinary update, with the numbers that the update may use. The lists of `spare` have
-/// room for them, so it takes no memory.
+/// Takes out a scope that is ready for an ordinary update, with the numbers that the update may
+/// use. The lists of `spare` have room for them, so it takes no memory.
 pub fn take_work(core: &mut Core, flight: Flight, spare: Spare) -> Work
     requires orderly { IsOrderly core.old }
     requires can { CanBeTaken core.old flight.scope flight.centre }
@@ -23,28 +23,46 @@ pub fn take_work(core: &mut Core, flight: Flight, spare: Spare) -> Work
     ensures links { links_at core.old.numbers.local flight.centre.0 ≡ Some result.row.links.items }
     ensures row { (st : Setting) → IsPartOf st core.old → HasItsRow st core.new result }
     ensures others { (w : Work) → IsOut core.old w → IsOut core.new w }
-    ensures rows { (x : ℕ) → links_at core.new.numbers.local x ≡ (if x == flight.centre.0 then None else links_at core.old.numbers.local x) }
+    ensures rows { (x : ℕ) →
+        links_at core.new.numbers.local x ≡ (if x == flight.centre.0 then None
+        else links_at core.old.numbers.local x) }
     ensures part { part_of core.new ≡ part_of core.old }
     ensures orderly { IsOrderly core.new }
     ensures places { KnowsPlaces core.old → KnowsPlaces core.new }
     ensures settings { SameSettings core.old core.new }
-    ensures rest { core.new ≡ record core.old { numbers = record core.old.numbers { local = record core.old.numbers.local { rows = core.new.numbers.local.rows } } } }
+    ensures rest { core.new ≡
+        record core.old {
+          numbers = record core.old.numbers {
+            local = record core.old.numbers.local { rows = core.new.numbers.local.rows };
+          };
+        } }
 {
     core.numbers.take_work(flight.scope, flight.centre, spare)
 }
 
-/// Puts back a work of which no update was made: no number changes, and its scope may be taken again. It takes no memory, and
-/// hands back the lists of the work's numbers.
+/// Puts back a work of which no update was made: no number changes, and its scope may be taken
+/// again. It takes no memory, and hands back the lists of the work's numbers.
 pub fn put_back(core: &mut Core, work: Work) -> Spare
     requires orderly { IsOrderly core.old }
     requires out { IsOut core.old work }
-    ensures rows { (x : ℕ) → links_at core.new.numbers.local x ≡ (if x == work.vertex.0 then Some work.row.links.items else links_at core.old.numbers.local x) }
+    ensures rows { (x : ℕ) →
+        links_at core.new.numbers.local x ≡ (if x == work.vertex.0 then Some work.row.links.items
+        else links_at core.old.numbers.local x) }
     ensures others { (w : Work) → IsOut core.old w → w.vertex.0 ≢ work.vertex.0 → IsOut core.new w }
     ensures part { part_of core.new ≡ part_of core.old }
     ensures orderly { IsOrderly core.new }
     ensures places { KnowsPlaces core.old → KnowsPlaces core.new }
-    ensures settings { (st : Setting) → IsPartOf st core.old → HasItsRow st core.old work → IsPartOf st core.new }
-    ensures rest { core.new ≡ record core.old { numbers = record core.old.numbers { local = record core.old.numbers.local { rows = core.new.numbers.local.rows; numbers = core.new.numbers.local.numbers } } } }
+    ensures settings { (st : Setting) → IsPartOf st core.old →
+        HasItsRow st core.old work → IsPartOf st core.new }
+    ensures rest { core.new ≡
+        record core.old {
+          numbers = record core.old.numbers {
+            local = record core.old.numbers.local {
+              rows = core.new.numbers.local.rows;
+              numbers = core.new.numbers.local.numbers;
+            };
+          };
+        } }
     ensures spare { (result.edges ≡ work.row.numbers) × (result.near ≡ work.near) }
 {
     core.numbers.put_back(work)

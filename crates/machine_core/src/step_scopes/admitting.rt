@@ -6,8 +6,9 @@ use crate::machine_parts::Core;
 use gl_base::{NoMemory, ScopeId, Vertex};
 use task_sets::task_sched::TaskSet;
 
-/// Admits a scope of the own vertex at this place, for its snapshot update or else for an update, where scopes take no locks: it is ready
-/// at once. It takes no memory; there is none for it exactly where no serial is left, or as many scopes are in flight as may be.
+/// Admits a scope of the own vertex at this place, for its snapshot update or else for an update,
+/// where scopes take no locks: it is ready at once. It takes no memory; there is none for it
+/// exactly where no serial is left, or as many scopes are in flight as may be.
 pub fn admit_in_step(core: &mut Core, place: Vertex, snapshot: bool) -> Result<ScopeId, NoMemory>
     requires orderly { IsOrderly core.old }
     requires places { KnowsPlaces core.old }

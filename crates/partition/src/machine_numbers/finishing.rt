@@ -11,24 +11,33 @@ use local_graph::{LocalGraph, Outcome, Row, Work};
 use task_sets::task_sched::TaskSet;
 
 impl Numbers {
-    /// Ends a work whose update was made: keeps the new numbers of the vertex and of its edges, ends its task, makes those own
-    /// vertices tasks that the update wakes, and logs the update. It takes no memory, and hands back the lists of the
-    /// work's and the outcome's numbers.
+    /// Ends a work whose update was made: keeps the new numbers of the vertex and of its edges,
+    /// ends its task, makes those own vertices tasks that the update wakes, and logs the update. It
+    /// takes no memory, and hands back the lists of the work's and the outcome's numbers.
     pub fn finish(&mut self, outcome: Outcome, entry: Entry) -> Spent
         requires can { CanFinish self.old outcome }
         requires tasks { AreTasksOf self.old.local self.old.tasks }
         ensures updated { HasUpdated self.old self.new outcome entry }
         ensures written { HasWritten self.old self.new outcome }
-        ensures back { (x : ℕ) → links_at self.new.local x ≡ (if x == outcome.work.vertex.0 then Some outcome.work.row.links.items else links_at self.old.local x) }
-        ensures local { self.new.local ≡ record self.old.local { kept = self.new.local.kept; rows = self.new.local.rows; numbers = self.new.local.numbers } }
+        ensures back { (x : ℕ) →
+            links_at self.new.local x ≡
+            (if x == outcome.work.vertex.0 then Some outcome.work.row.links.items
+            else links_at self.old.local x) }
+        ensures local { self.new.local ≡ record self.old.local {
+          kept = self.new.local.kept;
+          rows = self.new.local.rows;
+          numbers = self.new.local.numbers;
+        } }
         ensures ghosts { self.new.ghosts ≡ self.old.ghosts }
         ensures own { (x : ℕ) → is_own self.new.local x ≡ is_own self.old.local x }
         ensures edges { (e : ℕ) → HasEdge self.old.local e → HasEdge self.new.local e }
         ensures many_edges { length self.new.local.numbers ≡ length self.old.local.numbers }
-        ensures run { (k : ℕ) → place_at self.old.local outcome.work.vertex.0 ≡ Some k → HasRun self.old.tasks self.new.tasks k }
+        ensures run { (k : ℕ) → place_at self.old.local outcome.work.vertex.0 ≡ Some k →
+            HasRun self.old.tasks self.new.tasks k }
         ensures tasks_kept { AreTasksOf self.new.local self.new.tasks }
         ensures many_tasks { length self.new.tasks.task ≡ length self.old.tasks.task }
-        ensures spare { (result.edges ≡ outcome.work.row.numbers) × (result.near ≡ outcome.work.near) }
+        ensures spare { (result.edges ≡ outcome.work.row.numbers) ×
+            (result.near ≡ outcome.work.near) }
         ensures made { result.made ≡ outcome.edges }
     {
         let Outcome {
@@ -68,8 +77,12 @@ impl Numbers {
 fn renew(local: &mut LocalGraph, v: Vertex, value: u64)
     requires own { is_own local.old v.0 ≡ true }
     requires version { (datum_or (own_datum local.old v.0)).version < 4294967295 }
-    ensures datum { (x : ℕ) → own_datum local.new x ≡ (if x == v.0 then Some (renewed (datum_or (own_datum local.old v.0)) value) else own_datum local.old x) }
-    ensures exact { local.new.kept ≡ set_where local.old.kept (place_at local.old v.0) (renewed (datum_or (own_datum local.old v.0)) value) }
+    ensures datum { (x : ℕ) →
+        own_datum local.new x ≡
+        (if x == v.0 then Some (renewed (datum_or (own_datum local.old v.0)) value)
+        else own_datum local.old x) }
+    ensures exact { local.new.kept ≡ set_where local.old.kept (place_at local.old v.0)
+        (renewed (datum_or (own_datum local.old v.0)) value) }
     ensures rest { local.new ≡ record local.old { kept = local.new.kept } }
 {
     let old = local.datum(v);
@@ -93,7 +106,9 @@ fn end_task(tasks: &mut TaskSet, local: &LocalGraph, v: Vertex)
     requires task { flag_there tasks.old.task (place_at local.now v.0) ≡ true }
     requires not_pending { flag_there tasks.old.pending (place_at local.now v.0) ≡ false }
     requires outside { tasks.old.outside < 18446744073709551615 }
-    ensures each { (u : ℕ) → flag_there tasks.new.task (place_at local.now u) ≡ (flag_there tasks.old.task (place_at local.now u) && not (u == v.0)) }
+    ensures each { (u : ℕ) →
+        flag_there tasks.new.task (place_at local.now u) ≡
+        (flag_there tasks.old.task (place_at local.now u) && not (u == v.0)) }
     ensures run { (k : ℕ) → place_at local.now v.0 ≡ Some k → HasRun tasks.old tasks.new k }
     ensures exact { tasks.new.task ≡ set_where tasks.old.task (place_at local.now v.0) false }
     ensures many { length tasks.new.task ≡ length tasks.old.task }

@@ -11,8 +11,9 @@ use scope_locks::ghost_cache::GhostCache;
 use std::alloc::Global;
 use task_sets::task_sched::TaskSet;
 
-/// What of a machine carries numbers: its part of the graph with data, rows and the numbers of edges, the copies of the data of
-/// ghosts, its tasks by their places in the machine's own order, and the updates that it made.
+/// What of a machine carries numbers: its part of the graph with data, rows and the numbers of
+/// edges, the copies of the data of ghosts, its tasks by their places in the machine's own order,
+/// and the updates that it made.
 #[derive(Drop)]
 pub struct Numbers {
     pub local: LocalGraph,
@@ -28,7 +29,8 @@ pub struct Spare {
     pub near: Vec<u64>,
 }
 
-/// Lists that a work leaves behind whose update was kept: those of the work, and the one in which the new numbers of its edges stood.
+/// Lists that a work leaves behind whose update was kept: those of the work, and the one in which
+/// the new numbers of its edges stood.
 #[derive(Drop)]
 pub struct Spent {
     pub edges: Vec<u64>,
@@ -49,7 +51,8 @@ impl Spare {
 }
 
 impl Numbers {
-    /// The datum of an own vertex or the copy of a ghost's, and 0 in each field for any other vertex.
+    /// The datum of an own vertex or the copy of a ghost's, and 0 in each field for any other
+    /// vertex.
     pub fn datum(&self, v: Vertex) -> Datum
         ensures { result ≡ datum_here self.now v.0 }
     {
@@ -66,8 +69,8 @@ impl Numbers {
         }
     }
 
-    /// Moves the vertex of a ready scope out for its update, with the numbers that the update may use. The lists of `spare`
-    /// have room for them, so it takes no memory.
+    /// Moves the vertex of a ready scope out for its update, with the numbers that the update may
+    /// use. The lists of `spare` have room for them, so it takes no memory.
     pub fn take_work(&mut self, scope: ScopeId, v: Vertex, spare: Spare) -> Work
         requires own { is_own self.old.local v.0 ≡ true }
         requires row { is_some (links_at self.old.local v.0) ≡ true }
@@ -89,16 +92,27 @@ impl Numbers {
         }
     }
 
-    /// Moves the row of a work back, of which no update was made: no number changes. Hands back the lists of its numbers.
+    /// Moves the row of a work back, of which no update was made: no number changes. Hands back the
+    /// lists of its numbers.
     pub fn put_back(&mut self, work: Work) -> Spare
         requires own { is_own self.old.local work.vertex.0 ≡ true }
-        requires links { length work.row.links.items ≡ length (sides_at self.old.local work.vertex.0) }
-        requires numbers { work.row.numbers.items ≡ numbers_along (edge_here self.old) (sides_at self.old.local work.vertex.0) }
-        ensures back { (x : ℕ) → links_at self.new.local x ≡ (if x == work.vertex.0 then Some work.row.links.items else links_at self.old.local x) }
+        requires links { length work.row.links.items ≡ length
+            (sides_at self.old.local work.vertex.0) }
+        requires numbers { work.row.numbers.items ≡ numbers_along (edge_here self.old)
+            (sides_at self.old.local work.vertex.0) }
+        ensures back { (x : ℕ) →
+            links_at self.new.local x ≡ (if x == work.vertex.0 then Some work.row.links.items
+            else links_at self.old.local x) }
         ensures edge { (e : ℕ) → edge_here self.new e ≡ edge_here self.old e }
         ensures edges { (e : ℕ) → HasEdge self.old.local e → HasEdge self.new.local e }
         ensures many_edges { length self.new.local.numbers ≡ length self.old.local.numbers }
-        ensures rest { self.new ≡ record self.old { local = record self.old.local { rows = self.new.local.rows; numbers = self.new.local.numbers } } }
+        ensures rest { self.new ≡
+            record self.old {
+              local = record self.old.local {
+                rows = self.new.local.rows;
+                numbers = self.new.local.numbers;
+              };
+            } }
         ensures spare { (result.edges ≡ work.row.numbers) × (result.near ≡ work.near) }
     {
         let Work {
@@ -136,7 +150,8 @@ impl Numbers {
     }
 }
 
-/// The numbers at the other ends of these sides, in a list that has room for them. The sides have the places of these ends.
+/// The numbers at the other ends of these sides, in a list that has room for them. The sides have
+/// the places of these ends.
 fn fill_near(spare: Vec<u64>, sides: &[Side], numbers: &Numbers) -> Vec<u64>
     requires places { All (IsSideTo numbers.now.local.places) sides.now }
     requires room { length sides.now ≤ vec_capacity spare }

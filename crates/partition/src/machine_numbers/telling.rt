@@ -11,7 +11,8 @@ use std::alloc::Global;
 use update_api::{Link, Woken};
 use wire::wire_msgs::Done;
 
-/// A message that tells nothing yet of the update of this scope, with room for a vertex with so many edges.
+/// A message that tells nothing yet of the update of this scope, with room for a vertex with so
+/// many edges.
 pub fn blank_done(
     alloc: Global,
     scope: ScopeId,
@@ -32,14 +33,18 @@ pub fn blank_done(
 }
 
 impl Numbers {
-    /// Fills a blank message with what machine `to` is told of an update that was made and is not finished yet: the new datum
-    /// where the number changed, the new numbers of those edges to vertices of `to` that changed, and which vertices of `to`
-    /// it wakes. It takes no memory.
+    /// Fills a blank message with what machine `to` is told of an update that was made and is not
+    /// finished yet: the new datum where the number changed, the new numbers of those edges to
+    /// vertices of `to` that changed, and which vertices of `to` it wakes. It takes no memory.
     pub fn tell(&self, done: &mut Done, to: MachineNo, outcome: &Outcome)
-        requires blank { IsBlank done.old outcome.now.work.scope outcome.now.work.vertex (length (sides_at self.now.local outcome.now.work.vertex.0)) }
-        requires links { length outcome.now.work.row.links.items ≡ length (sides_at self.now.local outcome.now.work.vertex.0) }
-        requires numbers { length outcome.now.work.row.numbers.items ≡ length (sides_at self.now.local outcome.now.work.vertex.0) }
-        requires edges { length outcome.now.edges.items ≡ length (sides_at self.now.local outcome.now.work.vertex.0) }
+        requires blank { IsBlank done.old outcome.now.work.scope outcome.now.work.vertex
+            (length (sides_at self.now.local outcome.now.work.vertex.0)) }
+        requires links { length outcome.now.work.row.links.items ≡ length
+            (sides_at self.now.local outcome.now.work.vertex.0) }
+        requires numbers { length outcome.now.work.row.numbers.items ≡ length
+            (sides_at self.now.local outcome.now.work.vertex.0) }
+        requires edges { length outcome.now.edges.items ≡ length
+            (sides_at self.now.local outcome.now.work.vertex.0) }
         requires version { (datum_here self.now outcome.now.work.vertex.0).version < 4294967295 }
         ensures { TellsOf self.now to outcome.now done.new }
     {

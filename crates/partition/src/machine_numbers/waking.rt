@@ -13,7 +13,9 @@ use update_api::{Direction, Link, Woken};
 pub fn wake_named(tasks: &mut TaskSet, local: &LocalGraph, wakes: &[Vertex], key: u64)
     requires own { All (λ v. is_own local.now v.0 ≡ true) wakes.now }
     requires tasks { AreTasksOf local.now tasks.old }
-    ensures each { (u : ℕ) → flag_there tasks.new.task (place_at local.now u) ≡ (is_named wakes.now u || flag_there tasks.old.task (place_at local.now u)) }
+    ensures each { (u : ℕ) →
+        flag_there tasks.new.task (place_at local.now u) ≡
+        (is_named wakes.now u || flag_there tasks.old.task (place_at local.now u)) }
     ensures rest { tasks.new ≡ record tasks.old { task = tasks.new.task } }
     ensures many { length tasks.new.task ≡ length tasks.old.task }
     ensures tasks { AreTasksOf local.now tasks.new }
@@ -35,8 +37,12 @@ pub fn wake_along(
     requires many { length links.now ≡ length sides.now }
     requires sides { All (IsSideHere local.now) sides.now }
     requires tasks { AreTasksOf local.now tasks.old }
-    ensures each { (u : ℕ) → flag_there tasks.new.task (place_at local.now u) ≡ (wakes_of local.now.me.0 woken sides.now links.now u || flag_there tasks.old.task (place_at local.now u)) }
-    ensures exact { tasks.new.task ≡ woken_flags local.now.me.0 woken sides.now links.now tasks.old.task }
+    ensures each { (u : ℕ) →
+        flag_there tasks.new.task (place_at local.now u) ≡
+        (wakes_of local.now.me.0 woken sides.now links.now u || flag_there tasks.old.task
+        (place_at local.now u)) }
+    ensures exact { tasks.new.task ≡ woken_flags local.now.me.0 woken sides.now
+        links.now tasks.old.task }
     ensures rest { tasks.new ≡ record tasks.old { task = tasks.new.task } }
     ensures many { length tasks.new.task ≡ length tasks.old.task }
     ensures tasks { AreTasksOf local.now tasks.new }
@@ -50,7 +56,9 @@ pub fn wake_along(
 fn wake_one(tasks: &mut TaskSet, local: &LocalGraph, v: Vertex, key: u64)
     requires own { is_own local.now v.0 ≡ true }
     requires tasks { AreTasksOf local.now tasks.old }
-    ensures each { (u : ℕ) → flag_there tasks.new.task (place_at local.now u) ≡ ((v.0 == u) || flag_there tasks.old.task (place_at local.now u)) }
+    ensures each { (u : ℕ) →
+        flag_there tasks.new.task (place_at local.now u) ≡
+        ((v.0 == u) || flag_there tasks.old.task (place_at local.now u)) }
     ensures rest { tasks.new ≡ record tasks.old { task = tasks.new.task } }
     ensures many { length tasks.new.task ≡ length tasks.old.task }
     ensures tasks { AreTasksOf local.now tasks.new }
@@ -61,7 +69,8 @@ fn wake_one(tasks: &mut TaskSet, local: &LocalGraph, v: Vertex, key: u64)
     }
 }
 
-/// Makes the vertex at the other end of a side a task, where an update wakes it and the machine owns it.
+/// Makes the vertex at the other end of a side a task, where an update wakes it and the machine
+/// owns it.
 fn wake_end(
     tasks: &mut TaskSet,
     local: &LocalGraph,
@@ -72,8 +81,13 @@ fn wake_end(
 )
     requires side { IsSideHere local.now side.now }
     requires tasks { AreTasksOf local.now tasks.old }
-    ensures each { (u : ℕ) → flag_there tasks.new.task (place_at local.now u) ≡ ((wakes_there local.now.me.0 woken side.now link.now && side.now.other.0 == u) || flag_there tasks.old.task (place_at local.now u)) }
-    ensures exact { tasks.new.task ≡ (if wakes_there local.now.me.0 woken side.now link.now then slice_set tasks.old.task side.now.place true else tasks.old.task) }
+    ensures each { (u : ℕ) →
+        flag_there tasks.new.task (place_at local.now u) ≡
+        ((wakes_there local.now.me.0 woken side.now link.now && side.now.other.0 == u) || flag_there
+        tasks.old.task (place_at local.now u)) }
+    ensures exact { tasks.new.task ≡
+        (if wakes_there local.now.me.0 woken side.now link.now then slice_set tasks.old.task
+        side.now.place true else tasks.old.task) }
     ensures rest { tasks.new ≡ record tasks.old { task = tasks.new.task } }
     ensures many { length tasks.new.task ≡ length tasks.old.task }
     ensures tasks { AreTasksOf local.now tasks.new }

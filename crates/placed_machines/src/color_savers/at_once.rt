@@ -9,14 +9,19 @@ use gl_base::{Refused, Vertex};
 use update_api::Program;
 
 impl<P: Program> ColorSaver<P> {
-    /// Makes the update of the vertex that would be admitted next, where it is not pending and its scope has this machine alone; where half of
-    /// the window is outside the last snapshot, the coordinator is asked for the next one; and where the step is done with it, a wave that is
+    /// Makes the update of the vertex that would be admitted next, where it is not pending and its
+    /// scope has this machine alone; where half of the window is outside the last snapshot, the
+    /// coordinator is asked for the next one; and where the step is done with it, a wave that is
     /// held is answered.
     pub(crate) fn update_pick(&mut self, ticket: u64) -> Result<Vertex, Refused>
-        ensures updated { IfOk result (λ v. HasUpdatedAtOnce (IsColorSaverOf P.meaning) self.old v.0 ticket self.new) }
-        ensures not_now { IsErrOf result Refused.NotNow → CanNotUpdateAtOnce (IsColorSaverOf P.meaning) self.old }
-        ensures no_memory { IsErrOf result Refused.NoMemory → CanUpdateAtOnce (IsColorSaverOf P.meaning) self.old }
-        ensures unchanged { OnErr result (StandsStill (IsColorSaverOf P.meaning) self.old self.new) }
+        ensures updated { IfOk result (λ v.
+            HasUpdatedAtOnce (IsColorSaverOf P.meaning) self.old v.0 ticket self.new) }
+        ensures not_now { IsErrOf result Refused.NotNow →
+            CanNotUpdateAtOnce (IsColorSaverOf P.meaning) self.old }
+        ensures no_memory { IsErrOf result Refused.NoMemory →
+            CanUpdateAtOnce (IsColorSaverOf P.meaning) self.old }
+        ensures unchanged { OnErr result
+            (StandsStill (IsColorSaverOf P.meaning) self.old self.new) }
     {
         let prepared = self.prepare(2);
         let _core = self.machine.core();

@@ -8,8 +8,8 @@ use update_api::Program;
 use wire::wire_msgs::Message;
 
 impl<P: Program> ColorSaver<P> {
-    /// Makes room for so many reports; and where a wave is held, it is want of memory too where a count is about to end. What follows a call
-    /// can't fail then.
+    /// Makes room for so many reports; and where a wave is held, it is want of memory too where a
+    /// count is about to end. What follows a call can't fail then.
     pub(crate) fn prepare(&mut self, reports: usize) -> Result<(), NoMemory>
         ensures room { OnOk result (reports ≤ self.new.reports.room) }
         ensures slack { OnOk result (HasSlack self.old) }
@@ -35,8 +35,8 @@ impl<P: Program> ColorSaver<P> {
         Ok(())
     }
 
-    /// Answers the wave that is held, where one is and the machine's share of the step is done: nothing more is admitted in the step, and the
-    /// counts are put out. It takes no memory.
+    /// Answers the wave that is held, where one is and the machine's share of the step is done:
+    /// nothing more is admitted in the step, and the counts are put out. It takes no memory.
     pub(crate) fn prompt(&mut self)
         requires { HasRoomToAnswer self.old }
         ensures { HasPrompted P.meaning self.old self.new }

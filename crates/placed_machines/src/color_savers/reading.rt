@@ -11,16 +11,21 @@ use wire::wire_msgs::Message;
 impl<P: Program> ColorSaver<P> {
     /// Whether a message waits to be sent to a machine.
     pub(crate) fn has_message(&self, to: MachineNo) -> bool
-        ensures { OfEach (IsColorSaverOf P.meaning) self.now (λ st a m. IsTrue result ↔ HasFirst (m.part.out to.0)) }
+        ensures { OfEach (IsColorSaverOf P.meaning) self.now (λ st a m. IsTrue result ↔
+            HasFirst (m.part.out to.0)) }
     {
         self.machine.core().out.waits(Peer::Machine(to))
     }
 
     /// Takes the first message that waits to be sent to a machine; `None` exactly where none waits.
     pub(crate) fn message_take(&mut self, to: MachineNo) -> Option<Message>
-        ensures taken { IfSome result (λ m. OfEach (IsColorSaverOf P.meaning) self.old (SendsItsFirst (IsColorSaverOf P.meaning) to.0 m self.new)) }
-        ensures none { IfNone result (OfEach (IsColorSaverOf P.meaning) self.old (λ st a m. m.part.out to.0 ≡ [])) }
-        ensures unchanged { IfNone result (StandsStill (IsColorSaverOf P.meaning) self.old self.new) }
+        ensures taken { IfSome result (λ m.
+            OfEach (IsColorSaverOf P.meaning) self.old
+            (SendsItsFirst (IsColorSaverOf P.meaning) to.0 m self.new)) }
+        ensures none { IfNone result (OfEach (IsColorSaverOf P.meaning) self.old (λ st a m.
+            m.part.out to.0 ≡ [])) }
+        ensures unchanged { IfNone result
+            (StandsStill (IsColorSaverOf P.meaning) self.old self.new) }
     {
         match self.machine.outbox_take(Peer::Machine(to)) {
             Some(message) => {
@@ -33,16 +38,22 @@ impl<P: Program> ColorSaver<P> {
 
     /// Whether a message waits to be sent to the coordinator.
     pub(crate) fn waits_to_report(&self) -> bool
-        ensures { OfEach (IsColorSaverOf P.meaning) self.now (λ st a m. IsTrue result ↔ HasNext m.out) }
+        ensures { OfEach (IsColorSaverOf P.meaning) self.now (λ st a m. IsTrue result ↔
+            HasNext m.out) }
     {
         self.reports.waits()
     }
 
-    /// Takes the first message that waits to be sent to the coordinator; `None` exactly where none waits.
+    /// Takes the first message that waits to be sent to the coordinator; `None` exactly where none
+    /// waits.
     pub(crate) fn first_report(&mut self) -> Option<Message>
-        ensures taken { IfSome result (λ m. OfEach (IsColorSaverOf P.meaning) self.old (IsReporting (IsColorSaverOf P.meaning) m self.new)) }
-        ensures none { IfNone result (OfEach (IsColorSaverOf P.meaning) self.old (λ st a m. m.out ≡ [])) }
-        ensures unchanged { IfNone result (StandsStill (IsColorSaverOf P.meaning) self.old self.new) }
+        ensures taken { IfSome result (λ m.
+            OfEach (IsColorSaverOf P.meaning) self.old
+            (IsReporting (IsColorSaverOf P.meaning) m self.new)) }
+        ensures none { IfNone result (OfEach (IsColorSaverOf P.meaning) self.old (λ st a m.
+            m.out ≡ [])) }
+        ensures unchanged { IfNone result
+            (StandsStill (IsColorSaverOf P.meaning) self.old self.new) }
     {
         self.reports.take()
     }
@@ -63,6 +74,7 @@ impl<P: Program> ColorSaver<P> {
 
     /// It fails: nothing more happens at it in this attempt.
     pub(crate) fn give_up(&mut self)
-        ensures { OfEach (IsColorSaverOf P.meaning) self.old (λ st a m. IsColorSaverOf P.meaning st a (fails m) self.new) }
+        ensures { OfEach (IsColorSaverOf P.meaning) self.old (λ st a m.
+            IsColorSaverOf P.meaning st a (fails m) self.new) }
     {}
 }

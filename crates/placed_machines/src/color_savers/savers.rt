@@ -9,8 +9,9 @@ use std::alloc::Global;
 use std::marker::Model;
 use update_api::Program;
 
-/// A machine that goes by colours and takes part in snapshots, with what it counts for waves, the wave that it has to answer still, and what
-/// it tells the coordinator. At most `window` of its updates may be outside the last snapshot that was acknowledged.
+/// A machine that goes by colours and takes part in snapshots, with what it counts for waves, the
+/// wave that it has to answer still, and what it tells the coordinator. At most `window` of its
+/// updates may be outside the last snapshot that was acknowledged.
 #[derive(Drop)]
 pub struct ColorSaver<P: Program> {
     pub(crate) machine: ColorSnapMachine<P>,
@@ -24,7 +25,12 @@ impl<P: Program> Model for ColorSaver<P> {
 
     ghost Value = { ColorSaverView P };
 
-    ghost view = { λ s. record { machine = s.machine; counts = s.counts; window = s.window; reports = s.reports } };
+    ghost view = { λ s. record {
+      machine = s.machine;
+      counts = s.counts;
+      window = s.window;
+      reports = s.reports;
+    } };
 }
 
 impl<P: Program> ColorSaver<P> {

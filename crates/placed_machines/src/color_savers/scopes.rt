@@ -8,13 +8,17 @@ use gl_base::Refused;
 use update_api::Program;
 
 impl<P: Program> ColorSaver<P> {
-    /// A scope of a vertex of the step's colour is ready: of one that is pending, or of a task where the window has room. A wave that is held
-    /// waits on, as the scope is in flight now.
+    /// A scope of a vertex of the step's colour is ready: of one that is pending, or of a task
+    /// where the window has room. A wave that is held waits on, as the scope is in flight now.
     pub(crate) fn admit_one(&mut self) -> Result<(), Refused>
-        ensures admitted { OnOk result (HasAdmittedSome (IsColorSaverOf P.meaning) self.old self.new) }
-        ensures not_now { IsErrOf result Refused.NotNow → CanNotAdmit (IsColorSaverOf P.meaning) self.old }
-        ensures no_memory { IsErrOf result Refused.NoMemory → CanAdmit (IsColorSaverOf P.meaning) self.old }
-        ensures unchanged { OnErr result (StandsStill (IsColorSaverOf P.meaning) self.old self.new) }
+        ensures admitted { OnOk result
+            (HasAdmittedSome (IsColorSaverOf P.meaning) self.old self.new) }
+        ensures not_now { IsErrOf result Refused.NotNow →
+            CanNotAdmit (IsColorSaverOf P.meaning) self.old }
+        ensures no_memory { IsErrOf result Refused.NoMemory →
+            CanAdmit (IsColorSaverOf P.meaning) self.old }
+        ensures unchanged { OnErr result
+            (StandsStill (IsColorSaverOf P.meaning) self.old self.new) }
     {
         let _core = self.machine.core();
         let _plans = self.machine.core().numbers.tasks.plans();

@@ -11,13 +11,17 @@ use update_api::Program;
 use wire::wire_msgs::Message;
 
 impl<P: Program> ColorSaver<P> {
-    /// Makes the snapshot update of a ready scope of this home, whose vertex is pending; and where the step is done with it, a wave that is
-    /// held is answered.
+    /// Makes the snapshot update of a ready scope of this home, whose vertex is pending; and where
+    /// the step is done with it, a wave that is held is answered.
     pub(crate) fn mark_one(&mut self, scope: ScopeId) -> Result<(), Refused>
-        ensures marked { OnOk result (HasDone (IsColorSaverOf P.meaning) self.old (Mark scope) self.new) }
-        ensures not_now { IsErrOf result Refused.NotNow → CanNotDo (IsColorSaverOf P.meaning) self.old (Mark scope) }
-        ensures no_memory { IsErrOf result Refused.NoMemory → CanDo (IsColorSaverOf P.meaning) self.old (Mark scope) }
-        ensures unchanged { OnErr result (StandsStill (IsColorSaverOf P.meaning) self.old self.new) }
+        ensures marked { OnOk result
+            (HasDone (IsColorSaverOf P.meaning) self.old (Mark scope) self.new) }
+        ensures not_now { IsErrOf result Refused.NotNow →
+            CanNotDo (IsColorSaverOf P.meaning) self.old (Mark scope) }
+        ensures no_memory { IsErrOf result Refused.NoMemory →
+            CanDo (IsColorSaverOf P.meaning) self.old (Mark scope) }
+        ensures unchanged { OnErr result
+            (StandsStill (IsColorSaverOf P.meaning) self.old self.new) }
     {
         let _core = self.machine.core();
         if !self.machine.can_mark(scope) {
@@ -35,7 +39,8 @@ impl<P: Program> ColorSaver<P> {
         }
     }
 
-    /// A ready scope of this home whose snapshot update may be made now; `None` exactly where there is none.
+    /// A ready scope of this home whose snapshot update may be made now; `None` exactly where there
+    /// is none.
     pub(crate) fn next_mark_here(&self) -> Option<ScopeId>
         ensures some { IfSome result (λ s. CanDo (IsColorSaverOf P.meaning) self.now (Mark s)) }
         ensures none { IfNone result (CanMarkNone (IsColorSaverOf P.meaning) self.now) }
@@ -43,12 +48,16 @@ impl<P: Program> ColorSaver<P> {
         self.machine.next_mark()
     }
 
-    /// Puts out the section of the snapshot that the machine knows, all of whose vertices have the mark.
+    /// Puts out the section of the snapshot that the machine knows, all of whose vertices have the
+    /// mark.
     pub(crate) fn put_section(&mut self) -> Result<(), Refused>
         ensures sent { OnOk result (HasDone (IsColorSaverOf P.meaning) self.old Section self.new) }
-        ensures not_now { IsErrOf result Refused.NotNow → CanNotDo (IsColorSaverOf P.meaning) self.old Section }
-        ensures no_memory { IsErrOf result Refused.NoMemory → CanDo (IsColorSaverOf P.meaning) self.old Section }
-        ensures unchanged { OnErr result (StandsStill (IsColorSaverOf P.meaning) self.old self.new) }
+        ensures not_now { IsErrOf result Refused.NotNow →
+            CanNotDo (IsColorSaverOf P.meaning) self.old Section }
+        ensures no_memory { IsErrOf result Refused.NoMemory →
+            CanDo (IsColorSaverOf P.meaning) self.old Section }
+        ensures unchanged { OnErr result
+            (StandsStill (IsColorSaverOf P.meaning) self.old self.new) }
     {
         if !self.machine.has_section() {
             return Err(Refused::NotNow);
@@ -68,7 +77,8 @@ impl<P: Program> ColorSaver<P> {
 
     /// Whether the section may be put out now.
     pub(crate) fn may_put_section(&mut self) -> bool
-        ensures section { OfEach (IsColorSaverOf P.meaning) self.old (λ st a m. IsTrue result ↔ MayBeDone st a m Section) }
+        ensures section { OfEach (IsColorSaverOf P.meaning) self.old (λ st a m. IsTrue result ↔
+            MayBeDone st a m Section) }
         ensures unchanged { StandsStill (IsColorSaverOf P.meaning) self.old self.new }
     {
         self.machine.has_section()

@@ -10,13 +10,18 @@ use update_api::Program;
 use wire::wire_msgs::Message;
 
 impl<P: Program> ColorSaver<P> {
-    /// Makes the update of a ready scope of this home, whose vertex is a task and not pending; where half of the window is outside the last
-    /// snapshot, the coordinator is asked for the next one; and where the step is done with it, a wave that is held is answered.
+    /// Makes the update of a ready scope of this home, whose vertex is a task and not pending;
+    /// where half of the window is outside the last snapshot, the coordinator is asked for the next
+    /// one; and where the step is done with it, a wave that is held is answered.
     pub(crate) fn update_one(&mut self, scope: ScopeId, ticket: u64) -> Result<(), Refused>
-        ensures updated { OnOk result (HasDone (IsColorSaverOf P.meaning) self.old (Update scope ticket) self.new) }
-        ensures not_now { IsErrOf result Refused.NotNow → CanNotDo (IsColorSaverOf P.meaning) self.old (Update scope ticket) }
-        ensures no_memory { IsErrOf result Refused.NoMemory → CanDo (IsColorSaverOf P.meaning) self.old (Update scope ticket) }
-        ensures unchanged { OnErr result (StandsStill (IsColorSaverOf P.meaning) self.old self.new) }
+        ensures updated { OnOk result
+            (HasDone (IsColorSaverOf P.meaning) self.old (Update scope ticket) self.new) }
+        ensures not_now { IsErrOf result Refused.NotNow →
+            CanNotDo (IsColorSaverOf P.meaning) self.old (Update scope ticket) }
+        ensures no_memory { IsErrOf result Refused.NoMemory →
+            CanDo (IsColorSaverOf P.meaning) self.old (Update scope ticket) }
+        ensures unchanged { OnErr result
+            (StandsStill (IsColorSaverOf P.meaning) self.old self.new) }
     {
         let _core = self.machine.core();
         if !self.machine.can_update(scope) {
@@ -43,7 +48,8 @@ impl<P: Program> ColorSaver<P> {
         self.machine.next_update()
     }
 
-    /// Asks for a snapshot where half of the window is outside the last one, and none was asked for behind that yet. It takes no memory.
+    /// Asks for a snapshot where half of the window is outside the last one, and none was asked for
+    /// behind that yet. It takes no memory.
     pub(crate) fn ask(&mut self)
         requires { 0 < self.old.reports.room }
         ensures { HasWantedInSteps self.old self.new }

@@ -10,8 +10,9 @@ use scope_locks::ghost_cache::GhostCache;
 use std::alloc::Global;
 use task_sets::task_sched::TaskSet;
 
-/// The numbers of a machine as a run begins from this base: those of its own vertices, of its ghosts and of the edges, with every
-/// own vertex a task in the order in which the machine keeps them, and an empty log.
+/// The numbers of a machine as a run begins from this base: those of its own vertices, of its
+/// ghosts and of the edges, with every own vertex a task in the order in which the machine keeps
+/// them, and an empty log.
 pub fn first_numbers(
     alloc: Global,
     local: LocalGraph,
@@ -19,8 +20,10 @@ pub fn first_numbers(
     window: Option<u32>,
 ) -> Result<Numbers, NoMemory>
     requires { CanBegin local base.now }
-    ensures numbers { (st : Setting) → IsUnsetPart st local.me.0 local → BeginsWith st base.now → IfOk result (λ n. AreFirstNumbers st local.me.0 n) }
-    ensures part { (st : Setting) → IsUnsetPart st local.me.0 local → IfOk result (λ n. IsReadyPart st local.me.0 n) }
+    ensures numbers { (st : Setting) → IsUnsetPart st local.me.0 local → BeginsWith st base.now →
+        IfOk result (λ n. AreFirstNumbers st local.me.0 n) }
+    ensures part { (st : Setting) → IsUnsetPart st local.me.0 local →
+        IfOk result (λ n. IsReadyPart st local.me.0 n) }
     ensures tasks { IfOk result (λ n. AreFreshTasks window n.tasks) }
 {
     let mut local = local;
@@ -47,7 +50,8 @@ pub fn first_numbers_of_all(
     window: Option<u32>,
 ) -> Result<Vec<Numbers>, NoMemory>
     requires { CanAllBegin parts.items base.now }
-    ensures { (st : Setting) → AreUnsetParts st parts.items → BeginsWith st base.now → IfOk result (λ all. AllBegin st window all.items) }
+    ensures { (st : Setting) → AreUnsetParts st parts.items → BeginsWith st base.now →
+        IfOk result (λ all. AllBegin st window all.items) }
 {
     let mut all = Vec::with_capacity(alloc, parts.len())?;
     for local in parts {
@@ -60,7 +64,8 @@ pub fn first_numbers_of_all(
 fn set_edges(local: &mut LocalGraph, edges: &[u64])
     requires each { length edges.now ≡ length local.old.numbers }
     requires few { length edges.now < 2 ^ 32 }
-    ensures set { (e : ℕ) → e < length edges.now → edge_number_at local.new e ≡ slice_index edges.now e }
+    ensures set { (e : ℕ) → e < length edges.now →
+        edge_number_at local.new e ≡ slice_index edges.now e }
     ensures many { length local.new.numbers ≡ length local.old.numbers }
     ensures rest { local.new ≡ record local.old { numbers = local.new.numbers } }
 {
@@ -74,7 +79,8 @@ fn set_own(local: &mut LocalGraph, values: &[u64], mark: u32)
     requires own { All (λ v. is_own local.old v.0 ≡ true) local.old.owned }
     requires below { All (λ v. v.0 < length values.now) local.old.owned }
     ensures own { (x : ℕ) → is_own local.new x ≡ is_own local.old x }
-    ensures set { All (λ v. own_datum local.new v.0 ≡ Some (first_datum values.now mark v.0)) local.old.owned }
+    ensures set { All (λ v.
+        own_datum local.new v.0 ≡ Some (first_datum values.now mark v.0)) local.old.owned }
     ensures rest { local.new ≡ record local.old { kept = local.new.kept } }
 {
     for place in 0..local.owned().len() {
@@ -87,8 +93,11 @@ fn set_own(local: &mut LocalGraph, values: &[u64], mark: u32)
 fn set_ghosts(cache: &mut GhostCache, ghosts: &[GhostLine], values: &[u64], mark: u32)
     requires known { All (λ g. is_some (ghost_datum cache.old g.vertex.0) ≡ true) ghosts.now }
     requires below { All (λ g. g.vertex.0 < length values.now) ghosts.now }
-    ensures known { (x : ℕ) → is_some (ghost_datum cache.new x) ≡ is_some (ghost_datum cache.old x) }
-    ensures set { All (λ g. ghost_datum cache.new g.vertex.0 ≡ Some (first_datum values.now mark g.vertex.0)) ghosts.now }
+    ensures known { (x : ℕ) →
+        is_some (ghost_datum cache.new x) ≡ is_some (ghost_datum cache.old x) }
+    ensures set { All (λ g.
+        ghost_datum cache.new g.vertex.0 ≡ Some (first_datum values.now mark g.vertex.0))
+        ghosts.now }
 {
     for line in ghosts {
         cache.set(line.vertex, first_datum(values, mark, line.vertex));

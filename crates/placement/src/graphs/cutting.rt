@@ -20,7 +20,8 @@ pub struct Placement {
     pub owner: Vec<MachineNo>,
 }
 
-/// The atom of each vertex, the machine of each atom, and the part of the graph that each machine holds.
+/// The atom of each vertex, the machine of each atom, and the part of the graph that each machine
+/// holds.
 #[derive(Drop)]
 pub struct PlacedGraph {
     pub of: Vec<AtomNo>,
@@ -28,8 +29,8 @@ pub struct PlacedGraph {
     pub parts: Vec<LocalGraph>,
 }
 
-/// Cuts a graph by its growth into so many atoms, and places these on so many machines by their weights: each atom weighs as much as
-/// it has vertices and edges.
+/// Cuts a graph by its growth into so many atoms, and places these on so many machines by their
+/// weights: each atom weighs as much as it has vertices and edges.
 pub fn placement_by_cut(
     alloc: Global,
     graph: &Graph,
@@ -42,8 +43,12 @@ pub fn placement_by_cut(
     ensures cut { IfOk result (λ made. IsGrowthCut graph.now atoms (atom_numbers made.of.items)) }
     ensures atoms { IfOk result (λ made. All (λ a. a.0 < atoms) made.of.items) }
     ensures count { IfOk result (λ made. length made.owner.items ≡ atoms) }
-    ensures placing { IfOk result (λ made. IsPlacing (atom_weights graph.now (atom_numbers made.of.items) atoms) machines (machine_numbers made.owner.items)) }
-    ensures balanced { IfOk result (λ made. IsBalanced (atom_weights graph.now (atom_numbers made.of.items) atoms) machines (machine_numbers made.owner.items)) }
+    ensures placing { IfOk result (λ made.
+        IsPlacing (atom_weights graph.now (atom_numbers made.of.items) atoms) machines
+        (machine_numbers made.owner.items)) }
+    ensures balanced { IfOk result (λ made.
+        IsBalanced (atom_weights graph.now (atom_numbers made.of.items) atoms) machines
+        (machine_numbers made.owner.items)) }
     ensures machines { IfOk result (λ made. All (λ m. m.0 < machines) made.owner.items) }
 {
     let of = atoms_by_growth(alloc, graph, atoms)?;
@@ -51,8 +56,8 @@ pub fn placement_by_cut(
     Ok(Placement { of, owner })
 }
 
-/// Cuts and places a graph as `placement_by_cut` does, and makes each machine's part. Its order of vertices begins at `first`, where the
-/// machine owns that.
+/// Cuts and places a graph as `placement_by_cut` does, and makes each machine's part. Its order of
+/// vertices begins at `first`, where the machine owns that.
 pub fn placed_by_cut(
     alloc: Global,
     graph: &Graph,
@@ -64,10 +69,17 @@ pub fn placed_by_cut(
     requires some_machine { 1 ≤ machines }
     ensures cut { IfOk result (λ made. IsGrowthCut graph.now atoms (atom_numbers made.of.items)) }
     ensures atoms { IfOk result (λ made. All (λ a. a.0 < atoms) made.of.items) }
-    ensures placing { IfOk result (λ made. IsPlacing (atom_weights graph.now (atom_numbers made.of.items) atoms) machines (machine_numbers made.owner.items)) }
-    ensures balanced { IfOk result (λ made. IsBalanced (atom_weights graph.now (atom_numbers made.of.items) atoms) machines (machine_numbers made.owner.items)) }
+    ensures placing { IfOk result (λ made.
+        IsPlacing (atom_weights graph.now (atom_numbers made.of.items) atoms) machines
+        (machine_numbers made.owner.items)) }
+    ensures balanced { IfOk result (λ made.
+        IsBalanced (atom_weights graph.now (atom_numbers made.of.items) atoms) machines
+        (machine_numbers made.owner.items)) }
     ensures machines { IfOk result (λ made. All (λ m. m.0 < machines) made.owner.items) }
-    ensures parts { (st : Setting) → IfOk result (λ made. IsOwnedBy graph.now machines (placed_owner made.of.items made.owner.items) st → AreUnsetParts st made.parts.items) }
+    ensures parts { (st : Setting) →
+        IfOk result (λ made.
+        IsOwnedBy graph.now machines (placed_owner made.of.items made.owner.items) st →
+        AreUnsetParts st made.parts.items) }
 {
     let of = atoms_by_growth(alloc, graph, atoms)?;
     let owner = owners_by_weight(alloc, graph, &of, atoms, machines)?;
@@ -75,8 +87,8 @@ pub fn placed_by_cut(
     Ok(PlacedGraph { of, owner, parts })
 }
 
-/// The machine of each of so many atoms, where `of` says in which atom each vertex is: they are placed on so many machines by their
-/// weights.
+/// The machine of each of so many atoms, where `of` says in which atom each vertex is: they are
+/// placed on so many machines by their weights.
 pub fn owners_by_weight(
     alloc: Global,
     graph: &Graph,
@@ -88,8 +100,12 @@ pub fn owners_by_weight(
     requires each { length of.now ≡ size graph.now }
     requires below { All (λ a. a.0 < atoms) of.now }
     ensures count { IfOk result (λ owner. length owner.items ≡ atoms) }
-    ensures placing { IfOk result (λ owner. IsPlacing (atom_weights graph.now (atom_numbers of.now) atoms) machines (machine_numbers owner.items)) }
-    ensures balanced { IfOk result (λ owner. IsBalanced (atom_weights graph.now (atom_numbers of.now) atoms) machines (machine_numbers owner.items)) }
+    ensures placing { IfOk result (λ owner.
+        IsPlacing (atom_weights graph.now (atom_numbers of.now) atoms) machines
+        (machine_numbers owner.items)) }
+    ensures balanced { IfOk result (λ owner.
+        IsBalanced (atom_weights graph.now (atom_numbers of.now) atoms) machines
+        (machine_numbers owner.items)) }
     ensures machines { IfOk result (λ owner. All (λ m. m.0 < machines) owner.items) }
 {
     let weights = weights_of(alloc, graph, of, atoms)?;

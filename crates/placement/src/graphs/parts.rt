@@ -11,9 +11,9 @@ use graph_core::Graph;
 use local_graph::LocalGraph;
 use std::alloc::Global;
 
-/// The part of each of so many machines, where `of` says in which atom each vertex is, and `owner` on which machine each atom.
-/// Each machine's order of vertices begins at `first`, where it owns that. The time is linear in vertices, edges, atoms and
-/// machines.
+/// The part of each of so many machines, where `of` says in which atom each vertex is, and `owner`
+/// on which machine each atom. Each machine's order of vertices begins at `first`, where it owns
+/// that. The time is linear in vertices, edges, atoms and machines.
 pub fn placed(
     alloc: Global,
     graph: &Graph,
@@ -25,13 +25,15 @@ pub fn placed(
     requires each { length of.now ≡ size graph.now }
     requires atoms { All (λ a. a.0 < length owner.now) of.now }
     requires machines { All (λ m. m.0 < machines) owner.now }
-    ensures { (st : Setting) → IsOwnedBy graph.now machines (placed_owner of.now owner.now) st → IfOk result (λ locals. AreUnsetParts st locals.items) }
+    ensures { (st : Setting) → IsOwnedBy graph.now machines (placed_owner of.now owner.now) st →
+        IfOk result (λ locals. AreUnsetParts st locals.items) }
 {
     let owners = vertex_owners(alloc, of, owner, machines)?;
     parts_by_owner(alloc, graph, &owners, machines, first)
 }
 
-/// The part of each of so many machines, where `owners` has for each vertex the atom with the number of its machine.
+/// The part of each of so many machines, where `owners` has for each vertex the atom with the
+/// number of its machine.
 pub fn parts_by_owner(
     alloc: Global,
     graph: &Graph,
@@ -41,7 +43,9 @@ pub fn parts_by_owner(
 ) -> Result<Vec<LocalGraph>, NoMemory>
     requires each { length owners.now ≡ size graph.now }
     requires below { All (λ a. a.0 < machines) owners.now }
-    ensures { (st : Setting) → IsOwnedBy graph.now machines (slice_index (atom_numbers owners.now)) st → IfOk result (λ locals. AreUnsetParts st locals.items) }
+    ensures { (st : Setting) →
+        IsOwnedBy graph.now machines (slice_index (atom_numbers owners.now)) st →
+        IfOk result (λ locals. AreUnsetParts st locals.items) }
 {
     let _ = graph.n();
     let lines = vertices_of(alloc, graph, owners, machines)?;

@@ -9,7 +9,8 @@ use gl_base::{AtomNo, EdgeNo, NoMemory};
 use graph_core::Graph;
 use std::alloc::Global;
 
-/// How many vertices and edges each of so many atoms has, where `of` says in which atom each vertex is.
+/// How many vertices and edges each of so many atoms has, where `of` says in which atom each vertex
+/// is.
 pub fn weights_of(
     alloc: Global,
     graph: &Graph,
@@ -18,7 +19,8 @@ pub fn weights_of(
 ) -> Result<Vec<u64>, NoMemory>
     requires each { length of.now ≡ size graph.now }
     requires below { All (λ a. a.0 < atoms) of.now }
-    ensures weights { IfOk result (λ weights. weights.items ≡ atom_weights graph.now (atom_numbers of.now) atoms) }
+    ensures weights { IfOk result (λ weights.
+        weights.items ≡ atom_weights graph.now (atom_numbers of.now) atoms) }
     ensures fits { IfOk result (λ weights. sum weights.items < 2 ^ 64) }
 {
     let mut weights = vec![in alloc; 0u64; atoms as usize]?;
@@ -32,7 +34,8 @@ fn weigh(graph: &Graph, of: &[AtomNo], weights: &mut [u64])
     requires below { All (λ a. a.0 < length weights.old) of.now }
     requires none { AreWeights graph.now (atom_numbers of.now) 0 0 weights.old }
     ensures graph { IsDataGraph graph.now }
-    ensures weights { AreWeights graph.now (atom_numbers of.now) (size graph.now) (length graph.now.edges) weights.new }
+    ensures weights { AreWeights graph.now (atom_numbers of.now) (size graph.now)
+        (length graph.now.edges) weights.new }
 {
     weigh_vertices(graph, of, weights);
     weigh_edges(graph, of, weights);
@@ -57,7 +60,8 @@ fn weigh_edges(graph: &Graph, of: &[AtomNo], weights: &mut [u64])
     requires below { All (λ a. a.0 < length weights.old) of.now }
     requires vertices { AreWeights graph.now (atom_numbers of.now) (size graph.now) 0 weights.old }
     ensures graph { IsDataGraph graph.now }
-    ensures weights { AreWeights graph.now (atom_numbers of.now) (size graph.now) (length graph.now.edges) weights.new }
+    ensures weights { AreWeights graph.now (atom_numbers of.now) (size graph.now)
+        (length graph.now.edges) weights.new }
 {
     for e in 0..graph.m() {
         let line = graph.edge(EdgeNo(e));
@@ -71,7 +75,9 @@ fn weigh_edge(from: AtomNo, to: AtomNo, weights: &mut [u64])
     requires from { from.0 < length weights.old }
     requires to { to.0 < length weights.old }
     requires few { (a : ℕ) → slice_index weights.old a + 1 < 2 ^ 64 }
-    ensures each { (a : ℕ) → slice_index weights.new a ≡ slice_index weights.old a + (if from.0 == a || to.0 == a then 1 else 0) }
+    ensures each { (a : ℕ) →
+        slice_index weights.new a ≡ slice_index weights.old a + (if from.0 == a || to.0 == a then 1
+        else 0) }
 {
     weights[from.0 as usize] += 1;
     if to != from {

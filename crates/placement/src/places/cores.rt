@@ -17,7 +17,8 @@ use wire::outboxes::Outboxes;
 /// As many lists that scopes leave behind are kept for the next ones.
 const SPARE_LISTS: usize = 4096;
 
-/// What a new machine goes by, how many machines and vertices there are, and the serial of the first scope that it admits.
+/// What a new machine goes by, how many machines and vertices there are, and the serial of the
+/// first scope that it admits.
 #[derive(Clone, Copy)]
 pub struct NewTerms {
     pub terms: Terms,
@@ -26,7 +27,8 @@ pub struct NewTerms {
     pub serial: u64,
 }
 
-/// The parts of a machine with these numbers: nothing is in flight, nobody claims a lock, and nothing waits to be sent.
+/// The parts of a machine with these numbers: nothing is in flight, nobody claims a lock, and
+/// nothing waits to be sent.
 pub fn new_core(alloc: Global, numbers: Numbers, terms: NewTerms) -> Result<Core, NoMemory>
     requires places { HaveFirstPlaces numbers.local }
     requires below { All (λ v. v.0 < terms.vertices) numbers.local.owned }

@@ -9,7 +9,8 @@ use std::alloc::Global;
 /// The own vertices, each at its place.
 pub fn vertices_by_place(alloc: Global, local: &LocalGraph) -> Result<Vec<Vertex>, NoMemory>
     requires { HaveFirstPlaces local.now }
-    ensures { IfOk result (λ vertices. StandByPlace local.now (length local.now.owned) vertices.items) }
+    ensures { IfOk result (λ vertices.
+        StandByPlace local.now (length local.now.owned) vertices.items) }
 {
     let mut vertices = Vec::from_slice(alloc, local.owned())?;
     for v in local.owned() {

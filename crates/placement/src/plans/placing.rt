@@ -63,7 +63,9 @@ fn told_placement(
     requires told { IsAssignment graph.now atoms (atom_numbers told.now) }
     requires some { 1 ≤ machines }
     ensures of { IfOk result (λ made. made.of.items ≡ told.now) }
-    ensures placing { IfOk result (λ made. IsPlacing (atom_weights graph.now (atom_numbers told.now) atoms) machines (machine_numbers made.owner.items)) }
+    ensures placing { IfOk result (λ made.
+        IsPlacing (atom_weights graph.now (atom_numbers told.now) atoms) machines
+        (machine_numbers made.owner.items)) }
     ensures machines { IfOk result (λ made. All (λ m. m.0 < machines) made.owner.items) }
 {
     let owner = owners_by_weight(alloc, graph, told, atoms, machines)?;
@@ -82,7 +84,8 @@ fn whole_placement(alloc: Global, graph: &Graph, plan: RunPlan) -> Result<Placem
     Ok(Placement { of, owner })
 }
 
-/// The vertex at which the machine that owns it begins: of those that start with the least number the first.
+/// The vertex at which the machine that owns it begins: of those that start with the least number
+/// the first.
 pub fn first_of(graph: &Graph, base: &Base) -> Vertex
     requires { IsBaseFor graph.now base.now }
     ensures graph { IsDataGraph graph.now }

@@ -6,7 +6,8 @@ ghost use Rattle.cluster_laws.specs.cluster_model.Events.{failures_in};
 
 /// How many machines have failed in a cluster of which these flags say which have.
 pub fn count_failed(flags: &[bool]) -> usize
-    ensures { (st : Setting) (c : Cluster) → length flags.now ≡ st.machines → ((a : ℕ) → a < st.machines → (c.machine a).failed ≡ slice_index_or flags.now a false) →
+    ensures { (st : Setting) (c : Cluster) → length flags.now ≡ st.machines →
+        ((a : ℕ) → a < st.machines → (c.machine a).failed ≡ slice_index_or flags.now a false) →
         result ≡ failures_in st c }
 {
     let mut failed = 0;

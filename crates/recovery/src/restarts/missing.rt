@@ -7,8 +7,8 @@ ghost use Rattle.recovery.specs.restarts.Inner.Kept.{kept_restart};
 use gl_base::{Entry, NoMemory};
 use std::alloc::Global;
 
-/// The restarts that a store's order lacks as an attempt ends: those of the order that the attempt began with, and one for each of so many
-/// failures, with this ticket.
+/// The restarts that a store's order lacks as an attempt ends: those of the order that the attempt
+/// began with, and one for each of so many failures, with this ticket.
 pub fn missing_restarts(
     alloc: Global,
     stored: &[Entry],
@@ -17,8 +17,11 @@ pub fn missing_restarts(
     ticket: u64,
 ) -> Result<Vec<Entry>, NoMemory>
     requires { Begins (filter is_restart stored.now) (filter is_restart front.now) }
-    ensures lacks { IfOk result (λ missing. filter is_restart stored.now ++ missing.items ≡ filter is_restart front.now ++ restarts failures ticket) }
-    ensures alone { IfOk result (λ missing. AllByRecursion (λ entry. is_restart entry ≡ true) missing.items) }
+    ensures lacks { IfOk result (λ missing.
+        filter is_restart stored.now ++ missing.items ≡ filter is_restart
+        front.now ++ restarts failures ticket) }
+    ensures alone { IfOk result (λ missing.
+        AllByRecursion (λ entry. is_restart entry ≡ true) missing.items) }
 {
     let known = restarts_of(alloc, stored)?.len();
     let begun = restarts_of(alloc, front)?;

@@ -7,11 +7,15 @@ ghost use Rattle.recovery.specs.restarts.Missing.{Setting, Snapshot, IsRecordBeh
 use gl_base::{Entry, NoMemory, Record};
 use std::alloc::Global;
 
-/// The record with the restarts that the store lacks among its entries, each before the updates with its ticket: as the store takes it.
+/// The record with the restarts that the store lacks among its entries, each before the updates
+/// with its ticket: as the store takes it.
 pub fn record_behind(alloc: Global, saved: Record, missing: &[Entry]) -> Result<Record, NoMemory>
     // It is the record of the same snapshot, behind the order that the store has.
-    ensures behind { IfOk result (λ made. (st : Setting) (before front : List Entry) (snapshot : Snapshot) → IsRecordFor st snapshot saved →
-        AllByRecursion (λ entry. is_restart entry ≡ true) missing.now → filter is_restart before ++ missing.now ≡ filter is_restart front →
+    ensures behind { IfOk result (λ made.
+        (st : Setting) (before front : List Entry) (snapshot : Snapshot) →
+        IsRecordFor st snapshot saved →
+        AllByRecursion (λ entry. is_restart entry ≡ true) missing.now →
+        filter is_restart before ++ missing.now ≡ filter is_restart front →
         IsRecordBehind st before front snapshot made) }
     ensures number { IfOk result (λ made. made.number ≡ saved.number) }
     ensures in_turn { IfOk result (λ made. IsNonDecreasingBy entry_rank made.entries.items) }

@@ -9,7 +9,8 @@ use gl_base::{Datum, GhostLine, NoMemory, Vertex};
 use std::alloc::Global;
 use std::marker::Model;
 
-/// The datum of each ghost: a vertex of another machine of which a copy is kept here. Contracts see it by the vertex's number.
+/// The datum of each ghost: a vertex of another machine of which a copy is kept here. Contracts see
+/// it by the vertex's number.
 #[derive(Drop)]
 pub struct GhostCache {
     places: Places,
@@ -32,7 +33,8 @@ impl GhostCache {
     pub fn new(alloc: Global, ghosts: &[GhostLine], count: u32) -> Result<GhostCache, NoMemory>
         requires below { All (λ g. g.vertex.0 < count) ghosts.now }
         requires few { length ghosts.now ≤ count }
-        ensures { IfOk result (λ cache. (x : ℕ) → is_some (ghost_datum cache x) ≡ list_any (λ g. g.vertex.0 == x) ghosts.now) }
+        ensures { IfOk result (λ cache. (x : ℕ) →
+            is_some (ghost_datum cache x) ≡ list_any (λ g. g.vertex.0 == x) ghosts.now) }
     {
         let vertices = list_vertices(alloc, ghosts)?;
         let nothing = Datum {
@@ -67,7 +69,8 @@ impl GhostCache {
     /// Keeps this datum of a ghost, whatever its version.
     pub fn set(&mut self, v: Vertex, datum: Datum)
         requires { is_some (ghost_datum self.old v.0) ≡ true }
-        ensures { (x : ℕ) → ghost_datum self.new x ≡ (if x == v.0 then Some datum else ghost_datum self.old x) }
+        ensures { (x : ℕ) → ghost_datum self.new x ≡ (if x == v.0 then Some datum
+            else ghost_datum self.old x) }
     {
         if let Some(place) = self.places.place(v) {
             self.kept[place] = datum;
@@ -78,7 +81,8 @@ impl GhostCache {
     pub fn apply(&mut self, v: Vertex, datum: Datum)
         requires { is_some (ghost_datum self.old v.0) ≡ true }
         ensures { (kept : Datum) → ghost_datum self.old v.0 ≡ Some kept → (x : ℕ) →
-            ghost_datum self.new x ≡ (if x == v.0 then Some (newest kept datum) else ghost_datum self.old x) }
+            ghost_datum self.new x ≡ (if x == v.0 then Some (newest kept datum)
+            else ghost_datum self.old x) }
     {
         if self.get(v).version < datum.version {
             self.set(v, datum);

@@ -6,8 +6,8 @@ use crate::scope_pipe::next::{Next, next_at};
 use gl_base::{MachineNo, ScopeId, Vertex};
 use std::marker::Model;
 
-/// A scope that has come for locks: its centre, this machine's vertices of the scope, how many of their locks it asked for,
-/// and the machines still to come.
+/// A scope that has come for locks: its centre, this machine's vertices of the scope, how many of
+/// their locks it asked for, and the machines still to come.
 #[derive(Drop)]
 pub struct Entered {
     pub(crate) scope: ScopeId,
@@ -22,7 +22,13 @@ impl Model for Entered {
 
     ghost Value = { EnteredView };
 
-    ghost view = { λ e. record { scope = e.scope; centre = e.centre; part = e.part.items; place = e.place; rest = e.rest.items } };
+    ghost view = { λ e. record {
+      scope = e.scope;
+      centre = e.centre;
+      part = e.part.items;
+      place = e.place;
+      rest = e.rest.items;
+    } };
 }
 
 impl Entered {

@@ -6,7 +6,8 @@ use std::alloc::Global;
 
 const SLOTS: usize = 4096;
 
-/// For each scope a place at which it may stand. A hint may be wrong: who takes one looks whether the scope stands there.
+/// For each scope a place at which it may stand. A hint may be wrong: who takes one looks whether
+/// the scope stands there.
 #[derive(Drop)]
 pub struct Hints {
     places: Vec<u16>,
@@ -31,7 +32,8 @@ impl Hints {
     }
 }
 
-/// Scopes of one home that were admitted near one another have different slots, as have those of different homes.
+/// Scopes of one home that were admitted near one another have different slots, as have those of
+/// different homes.
 #[inline(always)]
 fn slot_of(scope: ScopeId) -> usize
     ensures { result < 4096 }

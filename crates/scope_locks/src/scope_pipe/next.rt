@@ -16,7 +16,8 @@ pub enum Next {
     Home,
 }
 
-/// What a scope of this centre wants next that asked for so many locks of `part`, and has the machines `rest` still to come.
+/// What a scope of this centre wants next that asked for so many locks of `part`, and has the
+/// machines `rest` still to come.
 #[inline(always)]
 pub fn next_at(centre: Vertex, part: &[Vertex], place: usize, rest: &[MachineNo]) -> Next
     ensures { result ≡ next_at centre (slice_get part.now place) rest.now }

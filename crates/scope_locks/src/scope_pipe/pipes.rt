@@ -19,8 +19,9 @@ use std::marker::Model;
 /// As many scopes may have come to a machine at once.
 const MAX_ENTERED: usize = 4096;
 
-/// The scopes that a machine admitted and that are in flight, and those that have come to it for locks. A scope is found where
-/// a hint leads, and by a search only where another scope has taken its hint.
+/// The scopes that a machine admitted and that are in flight, and those that have come to it for
+/// locks. A scope is found where a hint leads, and by a search only where another scope has taken
+/// its hint.
 #[derive(Drop)]
 pub struct ScopePipe {
     home: MachineNo,
@@ -65,11 +66,14 @@ impl Model for ScopePipe {
       entered = p.entered.items;
     } };
 
-    ghost invariant = { λ p. IsPipe p.serial p.width p.waiting.items p.ready.items p.entered.items p.waiting.cap p.ready.cap p.entered.cap };
+    ghost invariant = { λ p.
+        IsPipe p.serial p.width p.waiting.items p.ready.items p.entered.items p.waiting.cap
+        p.ready.cap p.entered.cap };
 }
 
 impl ScopePipe {
-    /// A pipe of machine `home` with no scope, of which `width` may be in flight. The first that is admitted gets the serial 0.
+    /// A pipe of machine `home` with no scope, of which `width` may be in flight. The first that is
+    /// admitted gets the serial 0.
     pub fn new(alloc: Global, home: MachineNo, width: u16) -> Result<ScopePipe, NoMemory>
         ensures pipe { IfOk result (λ p. (p.home ≡ home) × (p.width ≡ width) × (p.serial ≡ 0)) }
         ensures empty { IfOk result IsEmpty }
@@ -77,14 +81,16 @@ impl ScopePipe {
         ScopePipe::from_serial(alloc, home, width, 0)
     }
 
-    /// The same, where the first that is admitted gets this serial: so scopes of an earlier attempt are told apart from new ones.
+    /// The same, where the first that is admitted gets this serial: so scopes of an earlier attempt
+    /// are told apart from new ones.
     pub fn from_serial(
         alloc: Global,
         home: MachineNo,
         width: u16,
         serial: u64,
     ) -> Result<ScopePipe, NoMemory>
-        ensures pipe { IfOk result (λ p. (p.home ≡ home) × (p.width ≡ width) × (p.serial ≡ serial)) }
+        ensures pipe { IfOk result (λ p. (p.home ≡ home) ×
+            (p.width ≡ width) × (p.serial ≡ serial)) }
         ensures empty { IfOk result IsEmpty }
     {
         Ok(ScopePipe {
@@ -104,11 +110,16 @@ impl ScopePipe {
         requires { self.old.serial < 18446744073709551615 }
         ensures scope { IfOk result (λ s. (s ≡ next_id self.old) × (flight_at self.old s ≡ None)) }
         ensures admitted { IfOk result (λ _. HasAdmitted self.old self.new v) }
-        ensures free { IsOk result → (Flies self.old v → ⊥) × (flight_count self.old < self.old.width) }
+        ensures free { IsOk result → (Flies self.old v → ⊥) ×
+            (flight_count self.old < self.old.width) }
         ensures in_flight { IsErrOf result PipeFault.InFlight → Flies self.old v }
-        ensures full { IsErrOf result PipeFault.Full → (Flies self.old v → ⊥) × (flight_count self.old ≡ self.old.width) }
+        ensures full { IsErrOf result PipeFault.Full → (Flies self.old v → ⊥) ×
+            (flight_count self.old ≡ self.old.width) }
         ensures unchanged { OnErr result (self.new ≡ self.old) }
-        ensures rest { self.new ≡ record self.old { serial = self.new.serial; waiting = self.new.waiting } }
+        ensures rest { self.new ≡ record self.old {
+          serial = self.new.serial;
+          waiting = self.new.waiting;
+        } }
     {
         if self.flies(v) {
             return Err(PipeFault::InFlight);
@@ -139,14 +150,18 @@ impl ScopePipe {
         waits || is_ready
     }
 
-    /// Admits a scope of v where fewer are in flight than may be. Whether v has one in flight is not looked at.
+    /// Admits a scope of v where fewer are in flight than may be. Whether v has one in flight is
+    /// not looked at.
     pub fn admit_now(&mut self, v: Vertex) -> ScopeId
         requires serial { self.old.serial < 18446744073709551615 }
         requires room { flight_count self.old < self.old.width }
         ensures scope { result ≡ next_id self.old }
         ensures is_new { flight_at self.old (next_id self.old) ≡ None }
         ensures admitted { HasAdmitted self.old self.new v }
-        ensures rest { self.new ≡ record self.old { serial = self.new.serial; waiting = self.new.waiting } }
+        ensures rest { self.new ≡ record self.old {
+          serial = self.new.serial;
+          waiting = self.new.waiting;
+        } }
     {
         let scope = ScopeId {
             home: self.home,
@@ -167,12 +182,13 @@ impl ScopePipe {
         self.serial = next;
     }
 
-    /// The scope has come to this machine: `part` are this machine's vertices of it and `rest` the machines still to come, both
-    /// ascending.
+    /// The scope has come to this machine: `part` are this machine's vertices of it and `rest` the
+    /// machines still to come, both ascending.
     pub fn enter(&mut self, scope: ScopeId, centre: Vertex, part: Vec<Vertex>, rest: Vec<MachineNo>)
         requires is_new { entered_at self.old scope ≡ None }
         requires few { come self.old < 4096 }
-        ensures entered { HasCome self.old self.new scope (Some (comes scope centre part.items rest.items)) }
+        ensures entered { HasCome self.old self.new scope
+            (Some (comes scope centre part.items rest.items)) }
         ensures come { come self.new ≡ come self.old + 1 }
         ensures rest { self.new ≡ record self.old { entered = self.new.entered } }
     {
@@ -243,7 +259,8 @@ impl ScopePipe {
     #[inline(always)]
     pub fn look_ahead(&self, scope: ScopeId) -> Next
         requires { is_some (entered_at self.now scope) ≡ true }
-        ensures { (e : EnteredView) → entered_at self.now scope ≡ Some e → result ≡ next_of (moved_on e) }
+        ensures { (e : EnteredView) → entered_at self.now scope ≡ Some e →
+            result ≡ next_of (moved_on e) }
     {
         let place = entered_place(&self.entered, self.entered_hints.place(scope), scope);
         self.entered[place].after_next()
@@ -254,7 +271,8 @@ impl ScopePipe {
     pub fn advance(&mut self, scope: ScopeId) -> Next
         requires { is_some (entered_at self.old scope) ≡ true }
         ensures next { (e : EnteredView) → entered_at self.old scope ≡ Some e → result ≡ next_of e }
-        ensures moved { (e : EnteredView) → entered_at self.old scope ≡ Some e → HasCome self.old self.new scope (Some (moved_on e)) }
+        ensures moved { (e : EnteredView) → entered_at self.old scope ≡ Some e →
+            HasCome self.old self.new scope (Some (moved_on e)) }
         ensures come { come self.new ≡ come self.old }
         ensures rest { self.new ≡ record self.old { entered = self.new.entered } }
     {
@@ -265,9 +283,12 @@ impl ScopePipe {
     /// The scope leaves this machine, with the machines still to come.
     pub fn leave(&mut self, scope: ScopeId) -> Left
         requires { is_some (entered_at self.old scope) ≡ true }
-        ensures centre { (e : EnteredView) → entered_at self.old scope ≡ Some e → result.centre ≡ e.centre }
-        ensures part { (e : EnteredView) → entered_at self.old scope ≡ Some e → result.part.items ≡ e.part }
-        ensures machines { (e : EnteredView) → entered_at self.old scope ≡ Some e → result.rest.items ≡ e.rest }
+        ensures centre { (e : EnteredView) → entered_at self.old scope ≡ Some e →
+            result.centre ≡ e.centre }
+        ensures part { (e : EnteredView) → entered_at self.old scope ≡ Some e →
+            result.part.items ≡ e.part }
+        ensures machines { (e : EnteredView) → entered_at self.old scope ≡ Some e →
+            result.rest.items ≡ e.rest }
         ensures gone { HasCome self.old self.new scope None }
         ensures come { come self.new + 1 ≡ come self.old }
         ensures rest { self.new ≡ record self.old { entered = self.new.entered } }
@@ -288,7 +309,10 @@ impl ScopePipe {
         requires flies { is_some (flight_at self.old scope) ≡ true }
         requires waits { is_ready self.old scope ≡ false }
         ensures ready { HasReadied self.old self.new scope }
-        ensures rest { self.new ≡ record self.old { waiting = self.new.waiting; ready = self.new.ready } }
+        ensures rest { self.new ≡ record self.old {
+          waiting = self.new.waiting;
+          ready = self.new.ready;
+        } }
     {
         let hint = self.flight_hints.place(scope);
         if let Some(place) = flight_place(&self.waiting, hint, scope) {
@@ -343,8 +367,15 @@ impl ScopePipe {
     pub fn finish(&mut self, scope: ScopeId)
         requires { is_some (flight_at self.old scope) ≡ true }
         ensures finished { HasFinished self.old self.new scope }
-        ensures exact { self.new ≡ record self.old { waiting = without_flight scope self.old.waiting; ready = without_flight scope self.old.ready } }
-        ensures rest { self.new ≡ record self.old { waiting = self.new.waiting; ready = self.new.ready } }
+        ensures exact { self.new ≡
+            record self.old {
+              waiting = without_flight scope self.old.waiting;
+              ready = without_flight scope self.old.ready;
+            } }
+        ensures rest { self.new ≡ record self.old {
+          waiting = self.new.waiting;
+          ready = self.new.ready;
+        } }
     {
         let hint = self.flight_hints.place(scope);
         match flight_place(&self.waiting, hint, scope) {
@@ -358,10 +389,12 @@ impl ScopePipe {
         }
     }
 
-    /// No scope is in flight any more, and none has come, as after `new`; serials go on. It takes time for each scope.
+    /// No scope is in flight any more, and none has come, as after `new`; serials go on. It takes
+    /// time for each scope.
     pub fn reset(&mut self)
         ensures empty { IsEmpty self.new }
-        ensures pipe { (self.new.home ≡ self.old.home) × (self.new.width ≡ self.old.width) × (self.new.serial ≡ self.old.serial) }
+        ensures pipe { (self.new.home ≡ self.old.home) × (self.new.width ≡ self.old.width) ×
+            (self.new.serial ≡ self.old.serial) }
     {
         self.waiting.clear();
         self.ready.clear();

@@ -13,8 +13,8 @@ use gl_base::{Claim, Mode, NoMemory, ScopeId};
 use std::alloc::Global;
 use std::marker::Model;
 
-/// A lock: the claims of its holders, and behind them those that wait, the first first. So a grant moves a border. Contracts
-/// see the two lists, and for how many more claims there is room.
+/// A lock: the claims of its holders, and behind them those that wait, the first first. So a grant
+/// moves a border. Contracts see the two lists, and for how many more claims there is room.
 #[derive(Drop)]
 pub struct Lock {
     claims: Vec<Claim>,
@@ -73,9 +73,11 @@ impl Lock {
     /// The claim holds the lock at once, where nobody claims it and there is room.
     #[inline(always)]
     pub fn take(&mut self, claim: Claim) -> bool
-        ensures free { result ≡ true → IsFreeLock (mode_of self.old.holders) self.old.queue × (0 < self.old.room) }
+        ensures free { result ≡ true →
+            IsFreeLock (mode_of self.old.holders) self.old.queue × (0 < self.old.room) }
         ensures taken { result ≡ true → IsTaken (requested claim self.old) self.new claim }
-        ensures claimed { result ≡ false → IsFreeLock (mode_of self.old.holders) self.old.queue → self.old.room ≡ 0 }
+        ensures claimed { result ≡ false →
+            IsFreeLock (mode_of self.old.holders) self.old.queue → self.old.room ≡ 0 }
         ensures same { result ≡ false → self.new ≡ self.old }
         ensures only { claimed_once self.new ≡ claimed_once self.old + counted_if result }
     {
@@ -94,7 +96,8 @@ impl Lock {
     #[inline(always)]
     pub fn next(&self) -> Option<Claim>
         ensures next { IfSome result (λ c. IsNext (mode_of self.now.holders) self.now.queue c) }
-        ensures none { result ≡ None → (c : Claim) → IsNext (mode_of self.now.holders) self.now.queue c → ⊥ }
+        ensures none { result ≡ None → (c : Claim) →
+            IsNext (mode_of self.now.holders) self.now.queue c → ⊥ }
         ensures exclusion { WritesAlone (mode_of self.now.holders) }
         ensures once { WaitOnce (mode_of self.now.holders) self.now.queue }
     {
@@ -105,7 +108,8 @@ impl Lock {
     #[inline(always)]
     pub fn grant(&mut self) -> Option<Claim>
         ensures next { IfSome result (λ c. IsNext (mode_of self.old.holders) self.old.queue c) }
-        ensures none { result ≡ None → (c : Claim) → IsNext (mode_of self.old.holders) self.old.queue c → ⊥ }
+        ensures none { result ≡ None → (c : Claim) →
+            IsNext (mode_of self.old.holders) self.old.queue c → ⊥ }
         ensures taken { IfSome result (λ c. IsTaken self.old self.new c) }
         ensures waiting { result ≡ None → self.new ≡ self.old }
         ensures claimed { claimed_once self.new ≡ claimed_once self.old }
@@ -115,8 +119,8 @@ impl Lock {
         Some(claim)
     }
 
-    /// The scope holds the lock no more. Where it doesn't hold it, also where it waits for it, nothing changes. Answers whether the
-    /// last claim went.
+    /// The scope holds the lock no more. Where it doesn't hold it, also where it waits for it,
+    /// nothing changes. Answers whether the last claim went.
     pub fn release(&mut self, scope: ScopeId) -> bool
         ensures gone { IsReleased self.old self.new scope }
         ensures exact { self.new ≡ released scope self.old }
@@ -156,7 +160,8 @@ impl Lock {
     /// Whether nobody holds the lock, and nobody waits for it.
     pub fn is_free(&self) -> bool
         ensures free { result ≡ true → IsFreeLock (mode_of self.now.holders) self.now.queue }
-        ensures claimed { result ≡ false → IsFreeLock (mode_of self.now.holders) self.now.queue → ⊥ }
+        ensures claimed { result ≡ false →
+            IsFreeLock (mode_of self.now.holders) self.now.queue → ⊥ }
     {
         are_none(&self.claims)
     }
@@ -172,12 +177,15 @@ impl Lock {
     }
 }
 
-/// The first of the claims behind the holders, where it goes together with each holder. Where the first holder reads, all do.
+/// The first of the claims behind the holders, where it goes together with each holder. Where the
+/// first holder reads, all do.
 #[inline(always)]
 fn first_waiting(claims: &[Claim], held: usize) -> Option<Claim>
     requires { IsLock claims.now held }
-    ensures next { IfSome result (λ c. IsNext (mode_of (take held claims.now)) (drop held claims.now) c) }
-    ensures none { result ≡ None → (c : Claim) → IsNext (mode_of (take held claims.now)) (drop held claims.now) c → ⊥ }
+    ensures next { IfSome result (λ c.
+        IsNext (mode_of (take held claims.now)) (drop held claims.now) c) }
+    ensures none { result ≡ None → (c : Claim) →
+        IsNext (mode_of (take held claims.now)) (drop held claims.now) c → ⊥ }
 {
     if held >= claims.len() {
         return None;

@@ -12,9 +12,10 @@ use std::alloc::Global;
 use std::marker::Model;
 use task_sets::vertex_queue::VertexQueue;
 
-/// A reader-writer lock for each vertex that a machine owns, with a queue of the claims that wait for it. Contracts see
-/// whether a vertex has a lock, how each scope holds it, who waits for it, and for how many more claims there is room. A vertex is
-/// listed where a claim came to its lock, or one went for which others wait, until a look finds that nothing would be granted there. How
+/// A reader-writer lock for each vertex that a machine owns, with a queue of the claims that wait
+/// for it. Contracts see whether a vertex has a lock, how each scope holds it, who waits for it,
+/// and for how many more claims there is room. A vertex is listed where a claim came to its lock,
+/// or one went for which others wait, until a look finds that nothing would be granted there. How
 /// many locks somebody claims is counted.
 #[derive(Drop)]
 pub struct LockTable {
@@ -42,7 +43,8 @@ impl LockTable {
     pub fn new(alloc: Global, owned: &[Vertex], count: u32) -> Result<LockTable, NoMemory>
         requires below { All (λ v. v.0 < count) owned.now }
         requires few { length owned.now ≤ count }
-        ensures owned { IfOk result (λ table. (x : ℕ) → is_owned table x ≡ list_any (λ v. v.0 == x) owned.now) }
+        ensures owned { IfOk result (λ table. (x : ℕ) →
+            is_owned table x ≡ list_any (λ v. v.0 == x) owned.now) }
         ensures free { IfOk result IsUnclaimed }
     {
         let mut places = Vec::from_elem(alloc, u32::MAX, count as usize)?;
@@ -97,13 +99,14 @@ impl LockTable {
         self.claimed += usize::from(only);
     }
 
-    /// The claim holds the lock of x at once, where nobody claims it and there is room: as if it had asked and then been granted. Else
-    /// nothing changes.
+    /// The claim holds the lock of x at once, where nobody claims it and there is room: as if it
+    /// had asked and then been granted. Else nothing changes.
     #[inline(always)]
     pub fn take(&mut self, x: Vertex, claim: Claim) -> bool
         requires { is_owned self.old x.0 ≡ true }
         ensures taken { result ≡ true → HasTakenFree self.old self.new x.0 claim }
-        ensures claimed { result ≡ false → IsFreeLock (holder_at self.old x.0) (queue_at self.old x.0) → room_at self.old x.0 ≡ 0 }
+        ensures claimed { result ≡ false →
+            IsFreeLock (holder_at self.old x.0) (queue_at self.old x.0) → room_at self.old x.0 ≡ 0 }
         ensures same { result ≡ false → self.new ≡ self.old }
     {
         let place = self.places[x.0 as usize] as usize;
@@ -143,7 +146,8 @@ impl LockTable {
     pub fn is_free(&self, x: Vertex) -> bool
         requires { is_owned self.now x.0 ≡ true }
         ensures free { result ≡ true → IsFreeLock (holder_at self.now x.0) (queue_at self.now x.0) }
-        ensures claimed { result ≡ false → IsFreeLock (holder_at self.now x.0) (queue_at self.now x.0) → ⊥ }
+        ensures claimed { result ≡ false →
+            IsFreeLock (holder_at self.now x.0) (queue_at self.now x.0) → ⊥ }
     {
         let place = self.places[x.0 as usize] as usize;
         self.locks[place].is_free()
@@ -178,16 +182,19 @@ impl LockTable {
         }
     }
 
-    /// A vertex whose lock `grant` would grant, and `None` exactly where there is none. It takes no memory, and looks at no lock twice at
-    /// which nothing would be granted and no claim has come or gone since.
+    /// A vertex whose lock `grant` would grant, and `None` exactly where there is none. It takes no
+    /// memory, and looks at no lock twice at which nothing would be granted and no claim has come
+    /// or gone since.
     pub fn next_grant(&mut self) -> Option<Vertex>
-        ensures next { MatchOption result ((x : ℕ) → IsGrantable self.old x → ⊥) (λ x. IsGrantable self.old x.0) }
+        ensures next { MatchOption result ((x : ℕ) → IsGrantable self.old x →
+            ⊥) (λ x. IsGrantable self.old x.0) }
         ensures same { self.new ≡ self.old }
     {
         first_listed(&self.places, &self.locks, &mut self.listed)
     }
 
-    /// The scope holds the lock of x no more, which makes room for one claim. Where it doesn't hold it no claim changes.
+    /// The scope holds the lock of x no more, which makes room for one claim. Where it doesn't hold
+    /// it no claim changes.
     pub fn release(&mut self, x: Vertex, scope: ScopeId)
         requires { is_owned self.old x.0 ≡ true }
         ensures released { HasReleased self.old self.new x.0 scope }
@@ -220,10 +227,12 @@ fn list_waiting(listed: &mut VertexQueue, lock: &Lock, x: Vertex)
     }
 }
 
-/// The first of the listed vertices whose lock would be granted. Those before it are listed no more.
+/// The first of the listed vertices whose lock would be granted. Those before it are listed no
+/// more.
 fn first_listed(places: &[u32], locks: &[Lock], listed: &mut VertexQueue) -> Option<Vertex>
     requires { IsTable places.now locks.now listed.old }
-    ensures next { MatchOption result ((x : ℕ) → IsGrantable (table_of places.now locks.now) x → ⊥) (λ x. IsGrantable (table_of places.now locks.now) x.0) }
+    ensures next { MatchOption result ((x : ℕ) → IsGrantable (table_of places.now locks.now) x →
+        ⊥) (λ x. IsGrantable (table_of places.now locks.now) x.0) }
     ensures kept { IsTable places.now locks.now listed.new }
 {
     while let Some(x) = listed.front() {
@@ -249,7 +258,8 @@ fn is_grantable(places: &[u32], locks: &[Lock], x: Vertex) -> bool
 /// Nobody claims one of these locks any more.
 fn reset_all(locks: &mut [Lock])
     ensures free { (k : ℕ) → IsFree (slice_index_or locks.new k no_lock) }
-    ensures room { (k : ℕ) → (slice_index_or locks.old k no_lock).room ≤ (slice_index_or locks.new k no_lock).room }
+    ensures room { (k : ℕ) →
+        (slice_index_or locks.old k no_lock).room ≤ (slice_index_or locks.new k no_lock).room }
 {
     for lock in locks.iter_mut() {
         lock.reset();

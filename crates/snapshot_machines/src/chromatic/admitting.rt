@@ -10,8 +10,9 @@ use task_sets::task_sched::Pick;
 use update_api::Program;
 
 impl<P: Program> ColorSnapMachine<P> {
-    /// Admits a scope of a vertex of the step's colour, where the step goes on here: of one that is pending, for its snapshot update, and where
-    /// there is none of a task, where the window has room. It is ready at once. There is no memory for it where no serial is left, or as many
+    /// Admits a scope of a vertex of the step's colour, where the step goes on here: of one that is
+    /// pending, for its snapshot update, and where there is none of a task, where the window has
+    /// room. It is ready at once. There is no memory for it where no serial is left, or as many
     /// scopes are in flight as may be.
     pub fn admit(&mut self) -> Result<ScopeId, Refused>
         ensures scope { IfOk result (λ s. s ≡ next_id self.old.core.pipe) }
@@ -39,8 +40,9 @@ impl<P: Program> ColorSnapMachine<P> {
         }
     }
 
-    /// The place of a vertex of the step's colour that may be admitted, and whether for its snapshot update; `None` exactly where there is none.
-    /// It looks at no vertex of another colour.
+    /// The place of a vertex of the step's colour that may be admitted, and whether for its
+    /// snapshot update; `None` exactly where there is none. It looks at no vertex of another
+    /// colour.
     pub(crate) fn due(&self) -> Option<Pick>
         ensures some { IfSome result (λ pick. IsDueInStep self.now pick) }
         ensures none { IfNone result (IsNoneDueInStep self.now) }

@@ -12,19 +12,26 @@ use machine_core::machine_at_once::Found;
 use update_api::Program;
 
 impl<P: Program> ColorSnapMachine<P> {
-    /// Updates the vertex that would be admitted next, where the step goes on here, the vertex is not pending, and its scope has this
-    /// machine alone: as if a scope of it were admitted and made its update. It is logged under the ticket, and kept before the marks where
-    /// its vertex has no mark of the snapshot that is known, else behind them. The vertices that it wakes stand in line by their colours.
+    /// Updates the vertex that would be admitted next, where the step goes on here, the vertex is
+    /// not pending, and its scope has this machine alone: as if a scope of it were admitted and
+    /// made its update. It is logged under the ticket, and kept before the marks where its vertex
+    /// has no mark of the snapshot that is known, else behind them. The vertices that it wakes
+    /// stand in line by their colours.
     pub fn update_at_once(&mut self, ticket: u64) -> Result<Vertex, Refused>
-        ensures updated { IfOk result (λ v. HasUpdatedByColour (P.meaning self.old.program) self.old self.new v ticket) }
-        ensures run { OnOk result (HasRunAtOnce self.old.core.numbers.tasks self.new.core.numbers.tasks) }
-        ensures logged { IfOk result (λ v. HasLoggedAtOnce self.old.core self.old.kept self.new.kept v ticket) }
+        ensures updated { IfOk result (λ v.
+            HasUpdatedByColour (P.meaning self.old.program) self.old self.new v ticket) }
+        ensures run { OnOk result
+            (HasRunAtOnce self.old.core.numbers.tasks self.new.core.numbers.tasks) }
+        ensures logged { IfOk result (λ v.
+            HasLoggedAtOnce self.old.core self.old.kept self.new.kept v ticket) }
         ensures not_now { IsErrOf result Refused.NotNow → HasNoneByColour self.old }
         ensures no_memory { IsErrOf result Refused.NoMemory → CanUpdateByColour self.old }
         ensures unchanged { OnErr result (part_of_steps self.new ≡ part_of_steps self.old) }
         ensures same { OnErr result (IsSameButRoom self.old.kept self.new.kept) }
         ensures tasks { OnErr result (self.new.core.numbers.tasks ≡ self.old.core.numbers.tasks) }
-        ensures local { let old = self.old.core.numbers.local in let new = self.new.core.numbers.local in new ≡ record old { kept = new.kept; rows = new.rows; numbers = new.numbers } }
+        ensures local { let old = self.old.core.numbers.local in
+            let new = self.new.core.numbers.local in
+            new ≡ record old { kept = new.kept; rows = new.rows; numbers = new.numbers } }
         ensures step { IsInSameStep self.old self.new }
     {
         let _before = self.machine.core();

@@ -67,22 +67,30 @@ impl<P: Program> ColorSnapMachine<P> {
 
     /// Whether no vertex is a task or pending and no scope is in flight.
     pub fn is_idle(&self) -> bool
-        ensures { (st : Setting) → IsColorSnapPart st self.now → result ≡ is_idle st (part_of_steps self.now) }
+        ensures { (st : Setting) → IsColorSnapPart st self.now →
+            result ≡ is_idle st (part_of_steps self.now) }
     {
         self.machine.is_idle()
     }
 
     /// How many messages wait to be sent to machines.
     pub fn waiting(&self) -> u128
-        ensures { (st : Setting) → IsColorSnapPart st self.now → result ≡ total st.machines (λ q. length ((part_of_steps self.now).out q)) }
+        ensures { (st : Setting) → IsColorSnapPart st self.now →
+            result ≡ total st.machines (λ q. length ((part_of_steps self.now).out q)) }
     {
         self.machine.waiting()
     }
 
-    /// Takes the first message that waits for a machine or for the coordinator; `None` exactly where none waits.
+    /// Takes the first message that waits for a machine or for the coordinator; `None` exactly
+    /// where none waits.
     pub fn outbox_take(&mut self, to: Peer) -> Option<Message>
-        ensures first { option_map message_view result ≡ slice_get (waiting_for self.old.core.out to) 0 }
-        ensures behind { self.new.core ≡ record self.old.core { out = with_outbox self.old.core.out to (without_first (outbox_to self.old.core.out to)) } }
+        ensures first { option_map message_view result ≡ slice_get
+            (waiting_for self.old.core.out to) 0 }
+        ensures behind { self.new.core ≡
+            record self.old.core {
+              out = with_outbox self.old.core.out to
+                  (without_first (outbox_to self.old.core.out to));
+            } }
         ensures kept { self.new.kept ≡ self.old.kept }
         ensures step { IsInSameStep self.old self.new }
     {

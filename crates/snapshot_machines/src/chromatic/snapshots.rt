@@ -28,7 +28,8 @@ impl<P: Program> ColorSnapMachine<P> {
         enlist_first(&mut self.asked, &self.machine.core().numbers.tasks);
     }
 
-    /// This snapshot is acknowledged: the updates of its section are outside no more. It takes no memory.
+    /// This snapshot is acknowledged: the updates of its section are outside no more. It takes no
+    /// memory.
     pub fn committed(&mut self, number: u32)
         ensures kept { self.new.kept ≡ with_committed number self.old.kept }
         ensures fewer { HasFewerOutside self.old.core self.new.core }
@@ -38,14 +39,20 @@ impl<P: Program> ColorSnapMachine<P> {
         self.machine.committed(number);
     }
 
-    /// Word of an update elsewhere has come, be it a snapshot update or not. Those whom it wakes, and those who become pending, stand in
-    /// line by their colours. It takes no memory.
+    /// Word of an update elsewhere has come, be it a snapshot update or not. Those whom it wakes,
+    /// and those who become pending, stand in line by their colours. It takes no memory.
     pub fn learn(&mut self, done: Done)
         requires { CanHearNews self.old.core done }
         ensures learned { HasHeardNews self.old self.new done }
         ensures kept { IsSameButRoom (with_begun done.number self.old.kept) self.new.kept }
-        ensures tasks { let now = self.new.core.numbers.tasks in now ≡ record self.old.core.numbers.tasks { task = now.task; pending = now.pending; asked = now.asked } }
-        ensures local { self.new.core.numbers.local ≡ record self.old.core.numbers.local { numbers = self.new.core.numbers.local.numbers } }
+        ensures tasks { let now = self.new.core.numbers.tasks in
+            now ≡ record self.old.core.numbers.tasks {
+              task = now.task;
+              pending = now.pending;
+              asked = now.asked;
+            } }
+        ensures local { self.new.core.numbers.local ≡
+            record self.old.core.numbers.local { numbers = self.new.core.numbers.local.numbers } }
         ensures step { IsInSameStep self.old self.new }
     {
         self.begin(done.number);
@@ -56,19 +63,23 @@ impl<P: Program> ColorSnapMachine<P> {
         let _learned = self.machine.core();
     }
 
-    /// Makes the snapshot update of a scope that is in flight here, whose vertex is pending. Those who become pending stand in line by their
-    /// colours, and so does the vertex where it is a task.
+    /// Makes the snapshot update of a scope that is in flight here, whose vertex is pending. Those
+    /// who become pending stand in line by their colours, and so does the vertex where it is a
+    /// task.
     pub fn mark(&mut self, scope: ScopeId) -> Result<(), Refused>
         ensures marked { OnOk result (HasMarkedInStep self.old self.new scope) }
         ensures saved { HasSavedMore self.old.kept self.new.kept }
         ensures once { OnOk result (HasSavedOnce self.old.core self.old.kept self.new.kept scope) }
         ensures plans { OnOk result (HasEndedPlan self.old.core self.new.core scope) }
-        ensures not_now { IsErrOf result Refused.NotNow → MayMark scope (part_of_steps self.old) → ⊥ }
-        ensures no_memory { IsErrOf result Refused.NoMemory → MayMark scope (part_of_steps self.old) }
+        ensures not_now { IsErrOf result Refused.NotNow →
+            MayMark scope (part_of_steps self.old) → ⊥ }
+        ensures no_memory { IsErrOf result Refused.NoMemory →
+            MayMark scope (part_of_steps self.old) }
         ensures unchanged { OnErr result (HasOnlyMadeRoom self.old.core self.new.core) }
         ensures part { OnErr result (part_of_steps self.new ≡ part_of_steps self.old) }
         ensures same { OnErr result (IsSameButRoom self.old.kept self.new.kept) }
-        ensures local { self.new.core.numbers.local ≡ record self.old.core.numbers.local { kept = self.new.core.numbers.local.kept } }
+        ensures local { self.new.core.numbers.local ≡
+            record self.old.core.numbers.local { kept = self.new.core.numbers.local.kept } }
         ensures step { IsInSameStep self.old self.new }
     {
         let before = self.machine.core();
@@ -127,7 +138,8 @@ impl<P: Program> ColorSnapMachine<P> {
     }
 }
 
-/// The vertex that has been pending longest of those that are not admitted stands in line, where there is one.
+/// The vertex that has been pending longest of those that are not admitted stands in line, where
+/// there is one.
 fn enlist_first(asked: &mut ColorLines, tasks: &TaskSet)
     requires { length asked.old.colours ≡ length tasks.now.task }
     ensures { HasFirstInLine tasks.now asked.old asked.new }

@@ -8,7 +8,8 @@ use gl_base::Refused;
 use update_api::Program;
 
 impl<P: Program> ColorSnapMachine<P> {
-    /// The step of this colour begins here: from now on vertices of this colour are admitted, and no others. It takes no memory.
+    /// The step of this colour begins here: from now on vertices of this colour are admitted, and
+    /// no others. It takes no memory.
     pub fn step(&mut self, colour: u32)
         ensures begun { part_of_steps self.new ≡ steps_to colour (part_of_steps self.old) }
         ensures rest { self.new ≡ record self.old { colour = colour; closed = false } }
@@ -18,7 +19,8 @@ impl<P: Program> ColorSnapMachine<P> {
         self.closed = false;
     }
 
-    /// Whether the machine's share of the step is done: the step is closed here, or no scope is in flight and none may be admitted.
+    /// Whether the machine's share of the step is done: the step is closed here, or no scope is in
+    /// flight and none may be admitted.
     pub fn is_done(&self) -> bool
         ensures { HasShareDone self.now result }
     {
@@ -31,7 +33,8 @@ impl<P: Program> ColorSnapMachine<P> {
         self.due().is_none()
     }
 
-    /// Nothing more is admitted in this step, where the machine's share of it is done. It takes no memory.
+    /// Nothing more is admitted in this step, where the machine's share of it is done. It takes no
+    /// memory.
     pub fn close(&mut self) -> Result<(), Refused>
         ensures done { OnOk result (HasShareDone self.old true) }
         ensures closed { OnOk result (part_of_steps self.new ≡ closes (part_of_steps self.old)) }

@@ -13,19 +13,26 @@ use machine_core::machine_parts::Core;
 use update_api::Program;
 
 impl<P: Program> ColorSnapMachine<P> {
-    /// Makes the update of a scope that is in flight here, whose vertex is a task and not pending, and tells the other machines of the
-    /// scope. It is logged under the ticket, and kept before the marks where its vertex has no mark of the snapshot that is known, else
-    /// behind them. The vertices of this machine that it wakes stand in line by their colours.
+    /// Makes the update of a scope that is in flight here, whose vertex is a task and not pending,
+    /// and tells the other machines of the scope. It is logged under the ticket, and kept before
+    /// the marks where its vertex has no mark of the snapshot that is known, else behind them. The
+    /// vertices of this machine that it wakes stand in line by their colours.
     pub fn update(&mut self, scope: ScopeId, ticket: u64) -> Result<(), Refused>
-        ensures updated { OnOk result (HasUpdatedInColour (P.meaning self.old.program) self.old self.new scope ticket) }
+        ensures updated { OnOk result
+            (HasUpdatedInColour (P.meaning self.old.program) self.old self.new scope ticket) }
         ensures run { OnOk result (HasRunOf self.old.core self.new.core scope) }
-        ensures logged { OnOk result (HasLogged self.old.core self.old.kept self.new.kept scope ticket) }
-        ensures not_now { IsErrOf result Refused.NotNow → MayUpdate scope (part_of_steps self.old) 1 → ⊥ }
-        ensures no_memory { IsErrOf result Refused.NoMemory → MayUpdate scope (part_of_steps self.old) 1 }
+        ensures logged { OnOk result
+            (HasLogged self.old.core self.old.kept self.new.kept scope ticket) }
+        ensures not_now { IsErrOf result Refused.NotNow →
+            MayUpdate scope (part_of_steps self.old) 1 → ⊥ }
+        ensures no_memory { IsErrOf result Refused.NoMemory →
+            MayUpdate scope (part_of_steps self.old) 1 }
         ensures unchanged { OnErr result (part_of_steps self.new ≡ part_of_steps self.old) }
         ensures same { OnErr result (IsSameButRoom self.old.kept self.new.kept) }
         ensures tasks { OnErr result (self.new.core.numbers.tasks ≡ self.old.core.numbers.tasks) }
-        ensures local { let old = self.old.core.numbers.local in let new = self.new.core.numbers.local in new ≡ record old { kept = new.kept; rows = new.rows; numbers = new.numbers } }
+        ensures local { let old = self.old.core.numbers.local in
+            let new = self.new.core.numbers.local in
+            new ≡ record old { kept = new.kept; rows = new.rows; numbers = new.numbers } }
         ensures step { IsInSameStep self.old self.new }
     {
         let before = self.machine.core();
@@ -59,8 +66,8 @@ impl<P: Program> ColorSnapMachine<P> {
         self.machine.next_update()
     }
 
-    /// The last acknowledged snapshot that is known, where one behind it is to be asked for: so many updates are outside, and it wasn't
-    /// asked for yet.
+    /// The last acknowledged snapshot that is known, where one behind it is to be asked for: so
+    /// many updates are outside, and it wasn't asked for yet.
     pub fn ask(&mut self, half: u64) -> Option<u32>
         ensures behind { result ≡ asked_behind half self.old.kept }
         ensures rest { self.new ≡ record self.old { kept = with_asking half self.old.kept } }

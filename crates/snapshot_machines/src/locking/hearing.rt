@@ -10,8 +10,9 @@ use update_api::Program;
 use wire::wire_msgs::{Message, Returned};
 
 impl<P: Program> Saver<P> {
-    /// Receives a message from the coordinator: that a snapshot begins or is acknowledged, or a wave, which it answers at once. For want of
-    /// memory the message comes back, and so does what the coordinator doesn't tell.
+    /// Receives a message from the coordinator: that a snapshot begins or is acknowledged, or a
+    /// wave, which it answers at once. For want of memory the message comes back, and so does what
+    /// the coordinator doesn't tell.
     pub(crate) fn hear_call(&mut self, message: Message) -> Result<(), Returned>
         ensures heard { OnOk result (HasHeard (IsSaverOf P.meaning) self.old message self.new) }
         ensures returned { IfErr result (λ back. back.message ≡ message) }
@@ -28,9 +29,11 @@ impl<P: Program> Saver<P> {
         }
     }
 
-    /// This snapshot is acknowledged; and where half of the window is outside it, the coordinator is asked for the next one.
+    /// This snapshot is acknowledged; and where half of the window is outside it, the coordinator
+    /// is asked for the next one.
     fn hear_committed(&mut self, number: u32) -> Result<(), Returned>
-        ensures heard { OnOk result (HasHeard (IsSaverOf P.meaning) self.old (Message.Committed number) self.new) }
+        ensures heard { OnOk result
+            (HasHeard (IsSaverOf P.meaning) self.old (Message.Committed number) self.new) }
         ensures returned { IfErr result (λ back. back.message ≡ Message.Committed number) }
         ensures unchanged { OnErr result (StandsStill (IsSaverOf P.meaning) self.old self.new) }
     {
@@ -46,7 +49,8 @@ impl<P: Program> Saver<P> {
 
     /// The coordinator asks for the counts of this wave. A count that has ended is want of memory.
     fn hear_wave(&mut self, wave: u64) -> Result<(), Returned>
-        ensures heard { OnOk result (HasHeard (IsSaverOf P.meaning) self.old (Message.Wave wave) self.new) }
+        ensures heard { OnOk result
+            (HasHeard (IsSaverOf P.meaning) self.old (Message.Wave wave) self.new) }
         ensures returned { IfErr result (λ back. back.message ≡ Message.Wave wave) }
         ensures unchanged { OnErr result (StandsStill (IsSaverOf P.meaning) self.old self.new) }
     {

@@ -11,15 +11,19 @@ use wire::wire_msgs::Message;
 impl<P: Program> Saver<P> {
     /// Whether a message waits to be sent to a machine.
     pub(crate) fn has_message(&self, to: MachineNo) -> bool
-        ensures { OfEach (IsSaverOf P.meaning) self.now (λ st a m. IsTrue result ↔ HasFirst (m.part.out to.0)) }
+        ensures { OfEach (IsSaverOf P.meaning) self.now (λ st a m. IsTrue result ↔
+            HasFirst (m.part.out to.0)) }
     {
         self.machine.core().out.waits(Peer::Machine(to))
     }
 
     /// Takes the first message that waits to be sent to a machine; `None` exactly where none waits.
     pub(crate) fn message_take(&mut self, to: MachineNo) -> Option<Message>
-        ensures taken { IfSome result (λ m. OfEach (IsSaverOf P.meaning) self.old (SendsItsFirst (IsSaverOf P.meaning) to.0 m self.new)) }
-        ensures none { IfNone result (OfEach (IsSaverOf P.meaning) self.old (λ st a m. m.part.out to.0 ≡ [])) }
+        ensures taken { IfSome result (λ m.
+            OfEach (IsSaverOf P.meaning) self.old
+            (SendsItsFirst (IsSaverOf P.meaning) to.0 m self.new)) }
+        ensures none { IfNone result (OfEach (IsSaverOf P.meaning) self.old (λ st a m.
+            m.part.out to.0 ≡ [])) }
         ensures unchanged { IfNone result (StandsStill (IsSaverOf P.meaning) self.old self.new) }
     {
         match self.machine.outbox_take(Peer::Machine(to)) {
@@ -38,10 +42,13 @@ impl<P: Program> Saver<P> {
         self.reports.waits()
     }
 
-    /// Takes the first message that waits to be sent to the coordinator; `None` exactly where none waits.
+    /// Takes the first message that waits to be sent to the coordinator; `None` exactly where none
+    /// waits.
     pub(crate) fn first_report(&mut self) -> Option<Message>
-        ensures taken { IfSome result (λ m. OfEach (IsSaverOf P.meaning) self.old (IsReporting (IsSaverOf P.meaning) m self.new)) }
-        ensures none { IfNone result (OfEach (IsSaverOf P.meaning) self.old (λ st a m. m.out ≡ [])) }
+        ensures taken { IfSome result (λ m.
+            OfEach (IsSaverOf P.meaning) self.old (IsReporting (IsSaverOf P.meaning) m self.new)) }
+        ensures none { IfNone result (OfEach (IsSaverOf P.meaning) self.old (λ st a m.
+            m.out ≡ [])) }
         ensures unchanged { IfNone result (StandsStill (IsSaverOf P.meaning) self.old self.new) }
     {
         self.reports.take()
@@ -63,6 +70,7 @@ impl<P: Program> Saver<P> {
 
     /// It fails: nothing more happens at it in this attempt.
     pub(crate) fn give_up(&mut self)
-        ensures { OfEach (IsSaverOf P.meaning) self.old (λ st a m. IsSaverOf P.meaning st a (fails m) self.new) }
+        ensures { OfEach (IsSaverOf P.meaning) self.old (λ st a m.
+            IsSaverOf P.meaning st a (fails m) self.new) }
     {}
 }

@@ -9,15 +9,17 @@ use update_api::Program;
 use wire::wire_msgs::{Done, Message, Returned};
 
 impl<P: Program> Saver<P> {
-    /// Receives a message from another machine: the first on the link in some cluster in which this one stands. For want of memory the
-    /// message comes back, and so does what machines don't tell each other.
+    /// Receives a message from another machine: the first on the link in some cluster in which this
+    /// one stands. For want of memory the message comes back, and so does what machines don't tell
+    /// each other.
     pub(crate) fn receive_first(
         &mut self,
         from: MachineNo,
         message: Message,
     ) -> Result<(), Returned>
         requires { MayReceiveFirst (IsSaverOf P.meaning) self.old from.0 message }
-        ensures received { OnOk result (HasReceived (IsSaverOf P.meaning) self.old from.0 message self.new) }
+        ensures received { OnOk result
+            (HasReceived (IsSaverOf P.meaning) self.old from.0 message self.new) }
         ensures returned { IfErr result (λ back. back.message ≡ message) }
         ensures unchanged { OnErr result (StandsStill (IsSaverOf P.meaning) self.old self.new) }
     {
@@ -47,8 +49,11 @@ impl<P: Program> Saver<P> {
         centre: Vertex,
         rest: Vec<MachineNo>,
     ) -> Result<(), Returned>
-        requires { MayReceiveFirst (IsSaverOf P.meaning) self.old from.0 (Message.Ask scope centre rest) }
-        ensures received { OnOk result (HasReceived (IsSaverOf P.meaning) self.old from.0 (Message.Ask scope centre rest) self.new) }
+        requires { MayReceiveFirst (IsSaverOf P.meaning) self.old from.0
+            (Message.Ask scope centre rest) }
+        ensures received { OnOk result
+            (HasReceived (IsSaverOf P.meaning) self.old from.0
+            (Message.Ask scope centre rest) self.new) }
         ensures returned { IfErr result (λ back. back.message ≡ Message.Ask scope centre rest) }
         ensures unchanged { OnErr result (StandsStill (IsSaverOf P.meaning) self.old self.new) }
     {

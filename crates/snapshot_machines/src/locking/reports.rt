@@ -22,7 +22,10 @@ impl Model for Reports {
 
     ghost Value = { ReportsView };
 
-    ghost view = { λ r. record { messages = map message_view r.queue.items; room = r.queue.cap - length r.queue.items } };
+    ghost view = { λ r. record {
+      messages = map message_view r.queue.items;
+      room = r.queue.cap - length r.queue.items;
+    } };
 }
 
 impl Reports {

@@ -9,8 +9,9 @@ use std::alloc::Global;
 use std::marker::Model;
 use update_api::Program;
 
-/// A machine that takes part in snapshots, and at which scopes take locks, with what it counts for waves and with what it tells the
-/// coordinator. At most `window` of its updates may be outside the last snapshot that was acknowledged.
+/// A machine that takes part in snapshots, and at which scopes take locks, with what it counts for
+/// waves and with what it tells the coordinator. At most `window` of its updates may be outside the
+/// last snapshot that was acknowledged.
 #[derive(Drop)]
 pub struct Saver<P: Program> {
     pub(crate) machine: SnapMachine<P>,
@@ -25,7 +26,12 @@ impl<P: Program> Model for Saver<P> {
 
     ghost Value = { SaverView P };
 
-    ghost view = { λ s. record { machine = s.machine; counts = s.counts; window = s.window; reports = s.reports } };
+    ghost view = { λ s. record {
+      machine = s.machine;
+      counts = s.counts;
+      window = s.window;
+      reports = s.reports;
+    } };
 
     ghost invariant = { λ s. s.machine.core.terms.locks ≡ true };
 }

@@ -8,11 +8,14 @@ use gl_base::{Refused, Vertex};
 use update_api::Program;
 
 impl<P: Program> Saver<P> {
-    /// A scope of a vertex that is pending, or that is a task where the window has room, sets out for its locks.
+    /// A scope of a vertex that is pending, or that is a task where the window has room, sets out
+    /// for its locks.
     pub(crate) fn admit_one(&mut self) -> Result<(), Refused>
         ensures admitted { OnOk result (HasAdmittedSome (IsSaverOf P.meaning) self.old self.new) }
-        ensures not_now { IsErrOf result Refused.NotNow → CanNotAdmit (IsSaverOf P.meaning) self.old }
-        ensures no_memory { IsErrOf result Refused.NoMemory → CanAdmit (IsSaverOf P.meaning) self.old }
+        ensures not_now { IsErrOf result Refused.NotNow →
+            CanNotAdmit (IsSaverOf P.meaning) self.old }
+        ensures no_memory { IsErrOf result Refused.NoMemory →
+            CanAdmit (IsSaverOf P.meaning) self.old }
         ensures unchanged { OnErr result (StandsStill (IsSaverOf P.meaning) self.old self.new) }
     {
         let _plans = self.machine.core().numbers.tasks.plans();
@@ -24,9 +27,12 @@ impl<P: Program> Saver<P> {
 
     /// The first that waits for the lock of an own vertex holds it, and goes on.
     pub(crate) fn grant_first(&mut self, x: Vertex) -> Result<(), Refused>
-        ensures granted { OnOk result (HasDone (IsSaverOf P.meaning) self.old (Grant x.0) self.new) }
-        ensures not_now { IsErrOf result Refused.NotNow → CanNotDo (IsSaverOf P.meaning) self.old (Grant x.0) }
-        ensures no_memory { IsErrOf result Refused.NoMemory → CanDo (IsSaverOf P.meaning) self.old (Grant x.0) }
+        ensures granted { OnOk result
+            (HasDone (IsSaverOf P.meaning) self.old (Grant x.0) self.new) }
+        ensures not_now { IsErrOf result Refused.NotNow →
+            CanNotDo (IsSaverOf P.meaning) self.old (Grant x.0) }
+        ensures no_memory { IsErrOf result Refused.NoMemory →
+            CanDo (IsSaverOf P.meaning) self.old (Grant x.0) }
         ensures unchanged { OnErr result (StandsStill (IsSaverOf P.meaning) self.old self.new) }
     {
         if let Err(refused) = self.machine.grant(x) {

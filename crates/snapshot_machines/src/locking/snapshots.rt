@@ -11,16 +11,20 @@ use wire::wire_msgs::Message;
 impl<P: Program> Saver<P> {
     /// Makes the snapshot update of a ready scope of this home, whose vertex is pending.
     pub(crate) fn mark_one(&mut self, scope: ScopeId) -> Result<(), Refused>
-        ensures marked { OnOk result (HasDone (IsSaverOf P.meaning) self.old (Mark scope) self.new) }
-        ensures not_now { IsErrOf result Refused.NotNow → CanNotDo (IsSaverOf P.meaning) self.old (Mark scope) }
-        ensures no_memory { IsErrOf result Refused.NoMemory → CanDo (IsSaverOf P.meaning) self.old (Mark scope) }
+        ensures marked { OnOk result
+            (HasDone (IsSaverOf P.meaning) self.old (Mark scope) self.new) }
+        ensures not_now { IsErrOf result Refused.NotNow →
+            CanNotDo (IsSaverOf P.meaning) self.old (Mark scope) }
+        ensures no_memory { IsErrOf result Refused.NoMemory →
+            CanDo (IsSaverOf P.meaning) self.old (Mark scope) }
         ensures unchanged { OnErr result (StandsStill (IsSaverOf P.meaning) self.old self.new) }
     {
         let _core = self.machine.core();
         self.machine.mark(scope)
     }
 
-    /// A ready scope of this home whose snapshot update may be made now; `None` exactly where there is none.
+    /// A ready scope of this home whose snapshot update may be made now; `None` exactly where there
+    /// is none.
     pub(crate) fn next_mark_here(&self) -> Option<ScopeId>
         ensures some { IfSome result (λ s. CanDo (IsSaverOf P.meaning) self.now (Mark s)) }
         ensures none { IfNone result (CanMarkNone (IsSaverOf P.meaning) self.now) }
@@ -28,11 +32,14 @@ impl<P: Program> Saver<P> {
         self.machine.next_mark()
     }
 
-    /// Puts out the section of the snapshot that the machine knows, all of whose vertices have the mark.
+    /// Puts out the section of the snapshot that the machine knows, all of whose vertices have the
+    /// mark.
     pub(crate) fn put_section(&mut self) -> Result<(), Refused>
         ensures sent { OnOk result (HasDone (IsSaverOf P.meaning) self.old Section self.new) }
-        ensures not_now { IsErrOf result Refused.NotNow → CanNotDo (IsSaverOf P.meaning) self.old Section }
-        ensures no_memory { IsErrOf result Refused.NoMemory → CanDo (IsSaverOf P.meaning) self.old Section }
+        ensures not_now { IsErrOf result Refused.NotNow →
+            CanNotDo (IsSaverOf P.meaning) self.old Section }
+        ensures no_memory { IsErrOf result Refused.NoMemory →
+            CanDo (IsSaverOf P.meaning) self.old Section }
         ensures unchanged { OnErr result (StandsStill (IsSaverOf P.meaning) self.old self.new) }
     {
         if !self.machine.has_section() {
@@ -52,7 +59,8 @@ impl<P: Program> Saver<P> {
 
     /// Whether the section may be put out now.
     pub(crate) fn may_put_section(&mut self) -> bool
-        ensures section { OfEach (IsSaverOf P.meaning) self.old (λ st a m. IsTrue result ↔ MayBeDone st a m Section) }
+        ensures section { OfEach (IsSaverOf P.meaning) self.old (λ st a m. IsTrue result ↔
+            MayBeDone st a m Section) }
         ensures unchanged { StandsStill (IsSaverOf P.meaning) self.old self.new }
     {
         self.machine.has_section()

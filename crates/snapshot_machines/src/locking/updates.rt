@@ -11,12 +11,16 @@ use update_api::Program;
 use wire::wire_msgs::Message;
 
 impl<P: Program> Saver<P> {
-    /// Makes the update of a ready scope of this home, whose vertex is a task and not pending; and where half of the window is outside
-    /// the last snapshot, the coordinator is asked for the next one.
+    /// Makes the update of a ready scope of this home, whose vertex is a task and not pending; and
+    /// where half of the window is outside the last snapshot, the coordinator is asked for the next
+    /// one.
     pub(crate) fn update_one(&mut self, scope: ScopeId, ticket: u64) -> Result<(), Refused>
-        ensures updated { OnOk result (HasDone (IsSaverOf P.meaning) self.old (Update scope ticket) self.new) }
-        ensures not_now { IsErrOf result Refused.NotNow → CanNotDo (IsSaverOf P.meaning) self.old (Update scope ticket) }
-        ensures no_memory { IsErrOf result Refused.NoMemory → CanDo (IsSaverOf P.meaning) self.old (Update scope ticket) }
+        ensures updated { OnOk result
+            (HasDone (IsSaverOf P.meaning) self.old (Update scope ticket) self.new) }
+        ensures not_now { IsErrOf result Refused.NotNow →
+            CanNotDo (IsSaverOf P.meaning) self.old (Update scope ticket) }
+        ensures no_memory { IsErrOf result Refused.NoMemory →
+            CanDo (IsSaverOf P.meaning) self.old (Update scope ticket) }
         ensures unchanged { OnErr result (StandsStill (IsSaverOf P.meaning) self.old self.new) }
     {
         let _core = self.machine.core();
@@ -35,12 +39,16 @@ impl<P: Program> Saver<P> {
         }
     }
 
-    /// Makes the update of the vertex that the tasks pick, where it is not pending, its scope has this machine alone, and nobody holds or
-    /// waits for a lock of it; and where half of the window is outside the last snapshot, the coordinator is asked for the next one.
+    /// Makes the update of the vertex that the tasks pick, where it is not pending, its scope has
+    /// this machine alone, and nobody holds or waits for a lock of it; and where half of the window
+    /// is outside the last snapshot, the coordinator is asked for the next one.
     pub(crate) fn update_pick(&mut self, ticket: u64) -> Result<Vertex, Refused>
-        ensures updated { IfOk result (λ v. HasUpdatedAtOnce (IsSaverOf P.meaning) self.old v.0 ticket self.new) }
-        ensures not_now { IsErrOf result Refused.NotNow → CanNotUpdateAtOnce (IsSaverOf P.meaning) self.old }
-        ensures no_memory { IsErrOf result Refused.NoMemory → CanUpdateAtOnce (IsSaverOf P.meaning) self.old }
+        ensures updated { IfOk result (λ v.
+            HasUpdatedAtOnce (IsSaverOf P.meaning) self.old v.0 ticket self.new) }
+        ensures not_now { IsErrOf result Refused.NotNow →
+            CanNotUpdateAtOnce (IsSaverOf P.meaning) self.old }
+        ensures no_memory { IsErrOf result Refused.NoMemory →
+            CanUpdateAtOnce (IsSaverOf P.meaning) self.old }
         ensures unchanged { OnErr result (StandsStill (IsSaverOf P.meaning) self.old self.new) }
     {
         let _core = self.machine.core();
@@ -64,7 +72,8 @@ impl<P: Program> Saver<P> {
         self.machine.next_update()
     }
 
-    /// Asks for a snapshot where half of the window is outside the last one, and none was asked for behind that yet. It takes no memory.
+    /// Asks for a snapshot where half of the window is outside the last one, and none was asked for
+    /// behind that yet. It takes no memory.
     pub(crate) fn ask(&mut self)
         requires { 0 < self.old.reports.room }
         ensures { HasWanted self.old self.new }

@@ -11,8 +11,9 @@ use crate::marking::seeding::seed;
 use coordinator::snap_update::SnapPart;
 use machine_core::machine_parts::Core;
 
-/// A snapshot of this number has begun: where it is newer than those that the machine knows, it knows it, and has saved nothing for it
-/// yet. Then, where no vertex is pending, the first own one that has no mark of the newest snapshot becomes so. It takes no memory.
+/// A snapshot of this number has begun: where it is newer than those that the machine knows, it
+/// knows it, and has saved nothing for it yet. Then, where no vertex is pending, the first own one
+/// that has no mark of the newest snapshot becomes so. It takes no memory.
 pub fn begin(core: &mut Core, snaps: &mut SnapPart, seen: &mut usize, number: u32)
     requires orderly { IsOrderly core.old }
     requires places { KnowsPlaces core.old }
@@ -30,7 +31,8 @@ pub fn begin(core: &mut Core, snaps: &mut SnapPart, seen: &mut usize, number: u3
     seed(core, snaps.known(), seen);
 }
 
-/// A snapshot of this number has begun; before which place vertices have the mark of the newest one: none, where that is this one.
+/// A snapshot of this number has begun; before which place vertices have the mark of the newest
+/// one: none, where that is this one.
 fn seen_then(snaps: &mut SnapPart, seen: usize, number: u32) -> usize
     ensures place { result ≡ (if nat_lt snaps.old.known number then 0 else seen) }
     ensures kept { IsSameButRoom (with_begun number snaps.old) snaps.new }
@@ -39,8 +41,8 @@ fn seen_then(snaps: &mut SnapPart, seen: usize, number: u32) -> usize
     if snaps.begin(number) { 0 } else { seen }
 }
 
-/// This snapshot is acknowledged, which has the oldest section that wasn't known to be: its updates are outside no more. It takes no
-/// memory.
+/// This snapshot is acknowledged, which has the oldest section that wasn't known to be: its updates
+/// are outside no more. It takes no memory.
 pub fn committed(core: &mut Core, snaps: &mut SnapPart, number: u32)
     requires outside { core.old.numbers.tasks.outside ≡ outside_of snaps.old }
     ensures committed { snaps.new ≡ with_committed number snaps.old }

@@ -15,9 +15,9 @@ use machine_core::machine_updates::receive_done;
 use std::alloc::Global;
 use wire::wire_msgs::Done;
 
-/// Word of an update elsewhere has come, be it a snapshot update or not. The snapshot that it tells of has begun, its numbers are kept,
-/// the vertices that it wakes are tasks and those that it names for the snapshot are pending, and its scope's locks here are released. It
-/// takes no memory.
+/// Word of an update elsewhere has come, be it a snapshot update or not. The snapshot that it tells
+/// of has begun, its numbers are kept, the vertices that it wakes are tasks and those that it names
+/// for the snapshot are pending, and its scope's locks here are released. It takes no memory.
 pub fn learn(alloc: Global, core: &mut Core, snaps: &mut SnapPart, seen: &mut usize, done: Done)
     requires orderly { IsOrderly core.old }
     requires places { KnowsPlaces core.old }
@@ -26,12 +26,22 @@ pub fn learn(alloc: Global, core: &mut Core, snaps: &mut SnapPart, seen: &mut us
     ensures learned { HasLearnedNews core.old snaps.old core.new snaps.new done }
     ensures kept { IsSameButRoom (with_begun done.number snaps.old) snaps.new }
     ensures room { HasKeptRoom snaps.old.room snaps.new.room }
-    ensures local { core.new.numbers.local ≡ record core.old.numbers.local { numbers = core.new.numbers.local.numbers } }
+    ensures local { core.new.numbers.local ≡
+        record core.old.numbers.local { numbers = core.new.numbers.local.numbers } }
     ensures outside { core.new.numbers.tasks.outside ≡ core.old.numbers.tasks.outside }
-    ensures tasks { let now = core.new.numbers.tasks in now ≡ record core.old.numbers.tasks { task = now.task; pending = now.pending; asked = now.asked } }
-    ensures rest { core.new ≡ record core.old { numbers = core.new.numbers; locks = core.new.locks } }
+    ensures tasks { let now = core.new.numbers.tasks in
+        now ≡ record core.old.numbers.tasks {
+          task = now.task;
+          pending = now.pending;
+          asked = now.asked;
+        } }
+    ensures rest { core.new ≡ record core.old {
+      numbers = core.new.numbers;
+      locks = core.new.locks;
+    } }
     ensures seen { AreMarkedBelow core.new.numbers snaps.new.known seen.new }
-    ensures marks { AreMarksUpTo core.old.numbers snaps.old.known → AreMarksUpTo core.new.numbers snaps.new.known }
+    ensures marks { AreMarksUpTo core.old.numbers snaps.old.known →
+        AreMarksUpTo core.new.numbers snaps.new.known }
     ensures orderly { IsOrderly core.new }
     ensures places { KnowsPlaces core.new }
     ensures settings { SameSettings core.old core.new }

@@ -23,10 +23,12 @@ use scope_locks::scope_pipe::Flight;
 use std::alloc::Global;
 use task_sets::task_sched::TaskSet;
 
-/// Makes the snapshot update of a ready scope of this machine whose vertex is pending: saves the number of the vertex, and of each edge
-/// to a neighbour that has no mark yet, and marks the vertex. Those neighbours become pending, own ones at once and others by word to
-/// their machines, and the scope's locks here are released. It is want of memory too where the version of the vertex can't count one
-/// more, or the log has as many updates as it may. No vertex before `seen`, ascending, is without the mark.
+/// Makes the snapshot update of a ready scope of this machine whose vertex is pending: saves the
+/// number of the vertex, and of each edge to a neighbour that has no mark yet, and marks the
+/// vertex. Those neighbours become pending, own ones at once and others by word to their machines,
+/// and the scope's locks here are released. It is want of memory too where the version of the
+/// vertex can't count one more, or the log has as many updates as it may. No vertex before `seen`,
+/// ascending, is without the mark.
 pub fn mark(
     alloc: Global,
     core: &mut Core,
@@ -48,15 +50,23 @@ pub fn mark(
     ensures unchanged { OnErr result (HasOnlyMadeRoom core.old core.new) }
     ensures part { OnErr result (part_of core.new ≡ part_of core.old) }
     ensures same { OnErr result (IsSameButRoom snaps.old snaps.new) }
-    ensures local { core.new.numbers.local ≡ record core.old.numbers.local { kept = core.new.numbers.local.kept } }
+    ensures local { core.new.numbers.local ≡
+        record core.old.numbers.local { kept = core.new.numbers.local.kept } }
     ensures outside { core.new.numbers.tasks.outside ≡ core.old.numbers.tasks.outside }
     ensures rows { HasEachRow core.new.numbers.local }
     ensures seen { AreMarkedBelow core.new.numbers snaps.new.known seen.new }
-    ensures marks { AreMarksUpTo core.old.numbers snaps.old.known → AreMarksUpTo core.new.numbers snaps.new.known }
+    ensures marks { AreMarksUpTo core.old.numbers snaps.old.known →
+        AreMarksUpTo core.new.numbers snaps.new.known }
     ensures orderly { IsOrderly core.new }
     ensures places { KnowsPlaces core.new }
     ensures settings { SameSettings core.old core.new }
-    ensures rest { core.new ≡ record core.old { numbers = core.new.numbers; pipe = core.new.pipe; locks = core.new.locks; out = core.new.out; spare = core.new.spare } }
+    ensures rest { core.new ≡ record core.old {
+      numbers = core.new.numbers;
+      pipe = core.new.pipe;
+      locks = core.new.locks;
+      out = core.new.out;
+      spare = core.new.spare;
+    } }
 {
     let Some(centre) = centre_to_mark(core, scope) else {
         return Err(Refused::NotNow);
@@ -121,7 +131,8 @@ fn reserve_mark(
     requires flies { flight_at core.old.pipe flight.scope ≡ Some flight.centre }
     ensures reserved { IfOk result (λ ps. IsReserved core.new flight.scope flight.centre ps.items) }
     ensures vertex { OnOk result (0 < snaps.new.room.vertices) }
-    ensures edges { OnOk result (length (sides_at core.new.numbers.local flight.centre.0) ≤ snaps.new.room.edges) }
+    ensures edges { OnOk result
+        (length (sides_at core.new.numbers.local flight.centre.0) ≤ snaps.new.room.edges) }
     ensures made { HasOnlyMadeRoom core.old core.new }
     ensures part { part_of core.new ≡ part_of core.old }
     ensures same { IsSameButRoom snaps.old snaps.new }
@@ -135,26 +146,40 @@ fn reserve_mark(
     Ok(prepared)
 }
 
-/// Makes the snapshot update for which there is room, but for the vertex that becomes pending where none is. It takes no memory.
+/// Makes the snapshot update for which there is room, but for the vertex that becomes pending where
+/// none is. It takes no memory.
 fn make_mark(core: &mut Core, snaps: &mut SnapPart, flight: Flight, prepared: Vec<Prepared>)
     requires orderly { IsOrderly core.old }
     requires base { core.old.terms.base ≤ snaps.old.known }
     requires can { CanBeMarked core.old flight.scope flight.centre }
-    requires row { IsRowIn (links_at core.old.numbers.local flight.centre.0) (length (sides_at core.old.numbers.local flight.centre.0)) }
+    requires row { IsRowIn (links_at core.old.numbers.local flight.centre.0)
+        (length (sides_at core.old.numbers.local flight.centre.0)) }
     requires reserved { IsReserved core.old flight.scope flight.centre prepared.items }
     requires vertex { 0 < snaps.old.room.vertices }
-    requires edges { length (sides_at core.old.numbers.local flight.centre.0) ≤ snaps.old.room.edges }
-    ensures marked { HasMarkedHere core.old snaps.old core.new snaps.new flight.scope flight.centre }
+    requires edges { length
+        (sides_at core.old.numbers.local flight.centre.0) ≤ snaps.old.room.edges }
+    ensures marked { HasMarkedHere core.old snaps.old core.new snaps.new
+        flight.scope flight.centre }
     ensures saved { HasSavedMore snaps.old snaps.new }
-    ensures sides { snaps.new ≡ with_edges (edges_left core.old.numbers snaps.old.known (sides_at core.old.numbers.local flight.centre.0)) (with_vertex flight.centre (datum_here core.old.numbers flight.centre.0).value snaps.old) }
-    ensures plans { (place : ℕ) → place_at core.old.numbers.local flight.centre.0 ≡ Some place → HasUnplanned core.old.numbers.tasks core.new.numbers.tasks place }
-    ensures local { core.new.numbers.local ≡ record core.old.numbers.local { kept = core.new.numbers.local.kept } }
+    ensures sides { snaps.new ≡ with_edges
+        (edges_left core.old.numbers snaps.old.known
+        (sides_at core.old.numbers.local flight.centre.0))
+        (with_vertex flight.centre (datum_here core.old.numbers flight.centre.0).value snaps.old) }
+    ensures plans { (place : ℕ) → place_at core.old.numbers.local flight.centre.0 ≡ Some place →
+        HasUnplanned core.old.numbers.tasks core.new.numbers.tasks place }
+    ensures local { core.new.numbers.local ≡
+        record core.old.numbers.local { kept = core.new.numbers.local.kept } }
     ensures own { (x : ℕ) → is_own core.new.numbers.local x ≡ is_own core.old.numbers.local x }
     ensures outside { core.new.numbers.tasks.outside ≡ core.old.numbers.tasks.outside }
     ensures orderly { IsOrderly core.new }
     ensures places { KnowsPlaces core.old → KnowsPlaces core.new }
     ensures settings { SameSettings core.old core.new }
-    ensures rest { core.new ≡ record core.old { numbers = core.new.numbers; pipe = core.new.pipe; locks = core.new.locks; out = core.new.out } }
+    ensures rest { core.new ≡ record core.old {
+      numbers = core.new.numbers;
+      pipe = core.new.pipe;
+      locks = core.new.locks;
+      out = core.new.out;
+    } }
 {
     let Flight { scope, centre } = flight;
     let known = snaps.known();

@@ -12,8 +12,8 @@ use local_graph::{LocalGraph, Side};
 use partition::machine_numbers::Numbers;
 use task_sets::task_sched::TaskSet;
 
-/// The snapshot update of an own vertex is made: the vertex has the mark of this snapshot, and its own neighbours without the mark become
-/// pending. It takes no memory.
+/// The snapshot update of an own vertex is made: the vertex has the mark of this snapshot, and its
+/// own neighbours without the mark become pending. It takes no memory.
 pub fn mark_number(numbers: &mut Numbers, v: Vertex, known: u32)
     requires { CanMarkNumber numbers.old v }
     ensures { HasMarkedNumber numbers.old numbers.new v known }
@@ -30,11 +30,19 @@ fn end_mark(tasks: &mut TaskSet, local: &LocalGraph, v: Vertex)
     requires tasks { AreTasksOf local.now tasks.old }
     requires admitted { flag_there tasks.old.admitted (place_at local.now v.0) ≡ true }
     requires pending { flag_there tasks.old.pending (place_at local.now v.0) ≡ true }
-    ensures each { (u : ℕ) → flag_there tasks.new.pending (place_at local.now u) ≡ (flag_there tasks.old.pending (place_at local.now u) && not (u == v.0)) }
-    ensures admitted { (k : ℕ) → place_at local.now v.0 ≡ Some k → tasks.new.admitted ≡ slice_set tasks.old.admitted k false }
+    ensures each { (u : ℕ) →
+        flag_there tasks.new.pending (place_at local.now u) ≡
+        (flag_there tasks.old.pending (place_at local.now u) && not (u == v.0)) }
+    ensures admitted { (k : ℕ) → place_at local.now v.0 ≡ Some k →
+        tasks.new.admitted ≡ slice_set tasks.old.admitted k false }
     ensures plans { (k : ℕ) → place_at local.now v.0 ≡ Some k → HasUnplanned tasks.old tasks.new k }
     ensures tasks { AreTasksOf local.now tasks.new }
-    ensures rest { tasks.new ≡ record tasks.old { pending = tasks.new.pending; admitted = tasks.new.admitted; planned = tasks.new.planned; plans = tasks.new.plans } }
+    ensures rest { tasks.new ≡ record tasks.old {
+      pending = tasks.new.pending;
+      admitted = tasks.new.admitted;
+      planned = tasks.new.planned;
+      plans = tasks.new.plans;
+    } }
 {
     match local.place(v) {
         Some(place) => end_place(tasks, place),
@@ -50,7 +58,12 @@ fn end_place(tasks: &mut TaskSet, place: usize)
     ensures pending { tasks.new.pending ≡ slice_set tasks.old.pending place false }
     ensures admitted { tasks.new.admitted ≡ slice_set tasks.old.admitted place false }
     ensures plans { HasUnplanned tasks.old tasks.new place }
-    ensures rest { tasks.new ≡ record tasks.old { pending = tasks.new.pending; admitted = tasks.new.admitted; planned = tasks.new.planned; plans = tasks.new.plans } }
+    ensures rest { tasks.new ≡ record tasks.old {
+      pending = tasks.new.pending;
+      admitted = tasks.new.admitted;
+      planned = tasks.new.planned;
+      plans = tasks.new.plans;
+    } }
 {
     let count = tasks.count() as usize;
     if place < count {
@@ -62,8 +75,17 @@ fn end_place(tasks: &mut TaskSet, place: usize)
 fn pend_ends(numbers: &mut Numbers, v: Vertex, known: u32)
     requires sides { All (IsSideHere numbers.old.local) (sides_at numbers.old.local v.0) }
     requires tasks { AreTasksOf numbers.old.local numbers.old.tasks }
-    ensures each { (u : ℕ) → pending_here numbers.new u ≡ (is_named (ends_left numbers.old known numbers.old.local.me.0 (sides_at numbers.old.local v.0)) u || pending_here numbers.old u) }
-    ensures rest { numbers.new ≡ record numbers.old { tasks = record numbers.old.tasks { pending = numbers.new.tasks.pending; asked = numbers.new.tasks.asked } } }
+    ensures each { (u : ℕ) →
+        pending_here numbers.new u ≡
+        (is_named (ends_left numbers.old known numbers.old.local.me.0
+        (sides_at numbers.old.local v.0)) u || pending_here numbers.old u) }
+    ensures rest { numbers.new ≡
+        record numbers.old {
+          tasks = record numbers.old.tasks {
+            pending = numbers.new.tasks.pending;
+            asked = numbers.new.tasks.asked;
+          };
+        } }
 {
     let degree = numbers.local.sides(v).len();
     for place in 0..degree {
@@ -84,8 +106,17 @@ fn side_at(local: &LocalGraph, v: Vertex, place: usize) -> Side
 fn pend_end(numbers: &mut Numbers, side: Side, known: u32)
     requires side { IsSideHere numbers.old.local side }
     requires tasks { AreTasksOf numbers.old.local numbers.old.tasks }
-    ensures each { (u : ℕ) → pending_here numbers.new u ≡ ((is_end_left numbers.old known numbers.old.local.me.0 side && side.other.0 == u) || pending_here numbers.old u) }
-    ensures rest { numbers.new ≡ record numbers.old { tasks = record numbers.old.tasks { pending = numbers.new.tasks.pending; asked = numbers.new.tasks.asked } } }
+    ensures each { (u : ℕ) →
+        pending_here numbers.new u ≡
+        ((is_end_left numbers.old known numbers.old.local.me.0
+        side && side.other.0 == u) || pending_here numbers.old u) }
+    ensures rest { numbers.new ≡
+        record numbers.old {
+          tasks = record numbers.old.tasks {
+            pending = numbers.new.tasks.pending;
+            asked = numbers.new.tasks.asked;
+          };
+        } }
 {
     if is_end_left(numbers, &side, numbers.local.me(), known) {
         pend_place(&mut numbers.tasks, side.place as usize);

@@ -11,8 +11,13 @@ use task_sets::task_sched::TaskSet;
 pub fn pend_named(tasks: &mut TaskSet, local: &LocalGraph, vertices: &[Vertex])
     requires own { All (λ v. is_own local.now v.0 ≡ true) vertices.now }
     requires tasks { AreTasksOf local.now tasks.old }
-    ensures each { (u : ℕ) → flag_there tasks.new.pending (place_at local.now u) ≡ (is_named vertices.now u || flag_there tasks.old.pending (place_at local.now u)) }
-    ensures rest { tasks.new ≡ record tasks.old { pending = tasks.new.pending; asked = tasks.new.asked } }
+    ensures each { (u : ℕ) →
+        flag_there tasks.new.pending (place_at local.now u) ≡
+        (is_named vertices.now u || flag_there tasks.old.pending (place_at local.now u)) }
+    ensures rest { tasks.new ≡ record tasks.old {
+      pending = tasks.new.pending;
+      asked = tasks.new.asked;
+    } }
 {
     for place in 0..vertices.len() {
         pend_one(tasks, local, vertices[place]);
@@ -23,8 +28,13 @@ pub fn pend_named(tasks: &mut TaskSet, local: &LocalGraph, vertices: &[Vertex])
 pub fn pend_one(tasks: &mut TaskSet, local: &LocalGraph, v: Vertex)
     requires own { is_own local.now v.0 ≡ true }
     requires tasks { AreTasksOf local.now tasks.old }
-    ensures each { (u : ℕ) → flag_there tasks.new.pending (place_at local.now u) ≡ ((v.0 == u) || flag_there tasks.old.pending (place_at local.now u)) }
-    ensures rest { tasks.new ≡ record tasks.old { pending = tasks.new.pending; asked = tasks.new.asked } }
+    ensures each { (u : ℕ) →
+        flag_there tasks.new.pending (place_at local.now u) ≡
+        ((v.0 == u) || flag_there tasks.old.pending (place_at local.now u)) }
+    ensures rest { tasks.new ≡ record tasks.old {
+      pending = tasks.new.pending;
+      asked = tasks.new.asked;
+    } }
 {
     match local.place(v) {
         Some(place) => pend_place(tasks, place),
@@ -37,7 +47,10 @@ pub fn pend_place(tasks: &mut TaskSet, place: usize)
     requires { place < length tasks.old.task }
     ensures set { tasks.new.pending ≡ slice_set tasks.old.pending place true }
     ensures is_pending { is_flagged tasks.new.pending place ≡ true }
-    ensures rest { tasks.new ≡ record tasks.old { pending = tasks.new.pending; asked = tasks.new.asked } }
+    ensures rest { tasks.new ≡ record tasks.old {
+      pending = tasks.new.pending;
+      asked = tasks.new.asked;
+    } }
 {
     let count = tasks.count() as usize;
     if place < count {

@@ -12,11 +12,14 @@ use scope_locks::scope_pipe::Flight;
 use wire::outboxes::Outboxes;
 use wire::wire_msgs::{Done, Message};
 
-/// Saves the number of a vertex, and of each edge at it whose other end has no mark yet. It takes no memory.
+/// Saves the number of a vertex, and of each edge at it whose other end has no mark yet. It takes
+/// no memory.
 pub fn save_marked(numbers: &Numbers, snaps: &mut SnapPart, v: Vertex)
     requires vertex { 0 < snaps.old.room.vertices }
     requires edges { length (sides_at numbers.now.local v.0) ≤ snaps.old.room.edges }
-    ensures { snaps.new ≡ with_edges (edges_left numbers.now snaps.old.known (sides_at numbers.now.local v.0)) (with_vertex v (datum_here numbers.now v.0).value snaps.old) }
+    ensures { snaps.new ≡ with_edges
+        (edges_left numbers.now snaps.old.known (sides_at numbers.now.local v.0))
+        (with_vertex v (datum_here numbers.now v.0).value snaps.old) }
 {
     snaps.save_vertex(v, numbers.datum(v).value);
     let known = snaps.known();
@@ -55,9 +58,11 @@ pub fn tell_marks(
     flight: Flight,
     prepared: Vec<Prepared>,
 )
-    requires can { CanTell out.old flight.scope flight.centre (length (sides_at numbers.now.local flight.centre.0)) prepared.items }
+    requires can { CanTell out.old flight.scope flight.centre
+        (length (sides_at numbers.now.local flight.centre.0)) prepared.items }
     requires version { (datum_here numbers.now flight.centre.0).version < 4294967295 }
-    ensures { out.new ≡ after_told (mark_told numbers.now known flight.scope flight.centre) prepared.items out.old }
+    ensures { out.new ≡ after_told (mark_told numbers.now known flight.scope flight.centre)
+        prepared.items out.old }
 {
     for one in prepared {
         let Prepared { to, done } = one;
@@ -66,10 +71,11 @@ pub fn tell_marks(
     }
 }
 
-/// What machine `to` is told of a snapshot update, in the room of a blank message: those that become pending take the list for those
-/// that are woken.
+/// What machine `to` is told of a snapshot update, in the room of a blank message: those that
+/// become pending take the list for those that are woken.
 fn mark_done(numbers: &Numbers, known: u32, flight: Flight, to: MachineNo, blank: Done) -> Done
-    requires blank { IsBlank blank flight.scope flight.centre (length (sides_at numbers.now.local flight.centre.0)) }
+    requires blank { IsBlank blank flight.scope flight.centre
+        (length (sides_at numbers.now.local flight.centre.0)) }
     requires version { (datum_here numbers.now flight.centre.0).version < 4294967295 }
     ensures { done_view result ≡ mark_told numbers.now known flight.scope flight.centre to }
 {

@@ -11,8 +11,9 @@ use gl_base::Vertex;
 use machine_core::machine_parts::Core;
 use partition::machine_numbers::Numbers;
 
-/// Where no vertex is pending, the first own vertex that has no mark of this snapshot becomes pending; those before `seen` have it.
-/// It takes no memory, and looks once at each vertex that has its mark.
+/// Where no vertex is pending, the first own vertex that has no mark of this snapshot becomes
+/// pending; those before `seen` have it. It takes no memory, and looks once at each vertex that has
+/// its mark.
 pub fn seed(core: &mut Core, known: u32, seen: &mut usize)
     requires orderly { IsOrderly core.old }
     requires places { KnowsPlaces core.old }
@@ -35,14 +36,17 @@ pub fn seed(core: &mut Core, known: u32, seen: &mut usize)
 
 /// The own vertex at this place, where they stand ascending.
 pub fn own_at(numbers: &Numbers, place: usize) -> Option<Vertex>
-    ensures some { IfSome result (λ v. (slice_get numbers.now.local.owned place ≡ Some v) × (is_own numbers.now.local v.0 ≡ true)) }
-    ensures none { result ≡ None → (v : Vertex) → slice_get numbers.now.local.owned place ≡ Some v → is_own numbers.now.local v.0 ≡ false }
+    ensures some { IfSome result (λ v. (slice_get numbers.now.local.owned place ≡ Some v) ×
+        (is_own numbers.now.local v.0 ≡ true)) }
+    ensures none { result ≡ None → (v : Vertex) → slice_get numbers.now.local.owned place ≡ Some v →
+        is_own numbers.now.local v.0 ≡ false }
 {
     let v = *numbers.local.owned().get(place)?;
     if numbers.local.owns(v) { Some(v) } else { None }
 }
 
-/// The place among the own vertices, ascending, of the first that has no mark of this snapshot; behind the last where each has it.
+/// The place among the own vertices, ascending, of the first that has no mark of this snapshot;
+/// behind the last where each has it.
 pub fn first_unmarked(numbers: &Numbers, known: u32, seen: usize) -> usize
     requires { AreMarkedBelow numbers.now known seen }
     ensures below { AreMarkedBelow numbers.now known result }

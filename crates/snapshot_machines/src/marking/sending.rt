@@ -12,9 +12,10 @@ use partition::machine_numbers::Numbers;
 use std::alloc::Global;
 use wire::wire_msgs::Section;
 
-/// The section of the snapshot that is known, where each own vertex has its mark and the section wasn't sent yet: the saved numbers, and
-/// the updates made before their vertex was marked, which no later section has. `NotNow` exactly where it may not be sent. It goes over
-/// what it tells, and once over the vertices for each snapshot.
+/// The section of the snapshot that is known, where each own vertex has its mark and the section
+/// wasn't sent yet: the saved numbers, and the updates made before their vertex was marked, which
+/// no later section has. `NotNow` exactly where it may not be sent. It goes over what it tells, and
+/// once over the vertices for each snapshot.
 pub fn section(
     alloc: Global,
     core: &Core,

@@ -9,7 +9,8 @@ use crate::marking::marking::centre_to_mark;
 use gl_base::ScopeId;
 use machine_core::machine_parts::Core;
 
-/// A scope of this home that may make its snapshot update now; `None` exactly where none may. It looks at the ready scopes alone.
+/// A scope of this home that may make its snapshot update now; `None` exactly where none may. It
+/// looks at the ready scopes alone.
 pub fn next_mark(core: &Core) -> Option<ScopeId>
     requires { IsOrderly core.now }
     ensures some { IfSome result (λ s. MayMark s (part_of core.now)) }
@@ -29,7 +30,8 @@ pub fn next_mark(core: &Core) -> Option<ScopeId>
 /// Whether a scope may make its snapshot update now; then it is of this home.
 pub fn may_mark(core: &Core, scope: ScopeId) -> bool
     requires { IsOrderly core.now }
-    ensures yes { result ≡ true → MayMark scope (part_of core.now) × (scope.home ≡ core.now.numbers.local.me) }
+    ensures yes { result ≡ true → MayMark scope (part_of core.now) ×
+        (scope.home ≡ core.now.numbers.local.me) }
     ensures no { result ≡ false → MayMark scope (part_of core.now) → ⊥ }
 {
     centre_to_mark(core, scope).is_some()

@@ -14,8 +14,8 @@ use update_api::Program;
 /// So many updates of a machine are made at a time, each with lists of its own.
 const AT_A_TIME: usize = 1;
 
-/// A machine with its program and with what it keeps for snapshots. It takes the memory that it needs itself. Between its calls no update
-/// is under way: each row is in.
+/// A machine with its program and with what it keeps for snapshots. It takes the memory that it
+/// needs itself. Between its calls no update is under way: each row is in.
 #[derive(Drop)]
 pub struct SnapMachine<P: Program> {
     pub(crate) core: Core,
@@ -38,14 +38,16 @@ impl<P: Program> Model for SnapMachine<P> {
 }
 
 impl<P: Program> SnapMachine<P> {
-    /// The machine of these parts, with this program: nothing was made since the snapshot with which the run began.
+    /// The machine of these parts, with this program: nothing was made since the snapshot with
+    /// which the run began.
     pub fn new(alloc: Global, core: Core, program: P) -> Result<SnapMachine<P>, NoMemory>
         requires { IsFreshMachine core }
         ensures core { IfOk result (λ m. m.core ≡ core) }
         ensures kept { IfOk result (λ m. m.kept ≡ nothing_since core.terms.base m.kept.room) }
         ensures program { IfOk result (λ m. m.program ≡ program) }
     {
-        // A drop by a call is proved in one step; one at the end of the scope is proved here, field by field.
+        // A drop by a call is proved in one step; one at the end of the scope is proved here, field
+        // by field.
         let Ok(spares) = Spares::with_room(alloc, AT_A_TIME) else {
             drop(core);
             drop(program);

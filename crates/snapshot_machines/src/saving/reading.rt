@@ -37,24 +37,33 @@ impl<P: Program> SnapMachine<P> {
         &self.program
     }
 
-    /// Whether no vertex is a task or pending, no scope of this machine is in flight, and nobody waits for one of its locks.
+    /// Whether no vertex is a task or pending, no scope of this machine is in flight, and nobody
+    /// waits for one of its locks.
     pub fn is_idle(&self) -> bool
-        ensures { (st : Setting) → IsPartOf st self.now.core → result ≡ is_idle st (part_of self.now.core) }
+        ensures { (st : Setting) → IsPartOf st self.now.core →
+            result ≡ is_idle st (part_of self.now.core) }
     {
         machine_core::machine_rest::is_idle(&self.core)
     }
 
     /// How many messages wait to be sent to machines.
     pub fn waiting(&self) -> u128
-        ensures { (st : Setting) → IsPartOf st self.now.core → result ≡ total st.machines (λ q. length ((part_of self.now.core).out q)) }
+        ensures { (st : Setting) → IsPartOf st self.now.core →
+            result ≡ total st.machines (λ q. length ((part_of self.now.core).out q)) }
     {
         machine_core::machine_rest::waiting(&self.core)
     }
 
-    /// Takes the first message that waits for a machine or for the coordinator; `None` exactly where none waits.
+    /// Takes the first message that waits for a machine or for the coordinator; `None` exactly
+    /// where none waits.
     pub fn outbox_take(&mut self, to: Peer) -> Option<Message>
-        ensures first { option_map message_view result ≡ slice_get (waiting_for self.old.core.out to) 0 }
-        ensures behind { self.new.core ≡ record self.old.core { out = with_outbox self.old.core.out to (without_first (outbox_to self.old.core.out to)) } }
+        ensures first { option_map message_view result ≡ slice_get
+            (waiting_for self.old.core.out to) 0 }
+        ensures behind { self.new.core ≡
+            record self.old.core {
+              out = with_outbox self.old.core.out to
+                  (without_first (outbox_to self.old.core.out to));
+            } }
         ensures kept { self.new.kept ≡ self.old.kept }
         ensures program { self.new.program ≡ self.old.program }
         ensures settings { SameSettings self.old.core self.new.core }

@@ -12,7 +12,8 @@ use machine_core::machine_scopes::Moved;
 use update_api::Program;
 
 impl<P: Program> SnapMachine<P> {
-    /// Admits a scope of the vertex that the tasks pick: a pending one before a task, and a task where the window has room.
+    /// Admits a scope of the vertex that the tasks pick: a pending one before a task, and a task
+    /// where the window has room.
     pub fn admit(&mut self) -> Result<ScopeId, Refused>
         ensures scope { IfOk result (λ s. s ≡ next_id self.old.core.pipe) }
         ensures admitted { IfOk result (λ s. HasAdmittedPick self.old.core self.new.core) }
@@ -29,16 +30,24 @@ impl<P: Program> SnapMachine<P> {
         machine_core::machine_scopes::admit(self.alloc, &mut self.core)
     }
 
-    /// Admits a scope of the own vertex at this place, for its snapshot update or else for an update, where scopes take no locks: it is
-    /// ready at once. It takes no memory; there is none for it exactly where no serial is left, or as many scopes are in flight as may be.
+    /// Admits a scope of the own vertex at this place, for its snapshot update or else for an
+    /// update, where scopes take no locks: it is ready at once. It takes no memory; there is none
+    /// for it exactly where no serial is left, or as many scopes are in flight as may be.
     pub fn admit_in_step(&mut self, place: Vertex, snapshot: bool) -> Result<ScopeId, NoMemory>
         requires locks { self.old.core.terms.locks ≡ false }
-        requires can { CanTake self.old.core.numbers.tasks (record { vertex = place; snapshot = snapshot }) }
+        requires can { CanTake self.old.core.numbers.tasks (record {
+          vertex = place;
+          snapshot = snapshot;
+        }) }
         ensures room { IsOk result ↔ HasPlaceInFlight self.old.core }
         ensures scope { IfOk result (λ s. s ≡ next_id self.old.core.pipe) }
-        ensures admitted { IfOk result (λ s. HasAdmittedInStep self.old.core self.new.core place snapshot) }
+        ensures admitted { IfOk result (λ s.
+            HasAdmittedInStep self.old.core self.new.core place snapshot) }
         ensures unchanged { OnErr result (self.new ≡ self.old) }
-        ensures rest { self.new.core ≡ record self.old.core { numbers = self.new.core.numbers; pipe = self.new.core.pipe } }
+        ensures rest { self.new.core ≡ record self.old.core {
+          numbers = self.new.core.numbers;
+          pipe = self.new.core.pipe;
+        } }
         ensures kept { self.new.kept ≡ self.old.kept }
         ensures program { self.new.program ≡ self.old.program }
         ensures settings { SameSettings self.old.core self.new.core }
@@ -46,9 +55,11 @@ impl<P: Program> SnapMachine<P> {
         machine_core::step_scopes::admit_in_step(&mut self.core, place, snapshot)
     }
 
-    /// The first that waits for the lock of x holds it and goes on, where it goes together with each holder.
+    /// The first that waits for the lock of x holds it and goes on, where it goes together with
+    /// each holder.
     pub fn grant(&mut self, x: Vertex) -> Result<Moved, Refused>
-        ensures granted { IfOk result (λ moved. MayGrantLock self.old.core x.0 × HasGrantedLock self.old.core self.new.core x.0) }
+        ensures granted { IfOk result (λ moved. MayGrantLock self.old.core x.0 ×
+            HasGrantedLock self.old.core self.new.core x.0) }
         ensures scope { IfOk result (λ moved. WaitsFirst self.old.core x.0 moved.scope) }
         ensures next { IfOk result (λ moved. WantedNext self.old.core moved.scope moved.next) }
         ensures not_now { IsErrOf result Refused.NotNow → MayNotGrantLock self.old.core x.0 }
@@ -63,7 +74,8 @@ impl<P: Program> SnapMachine<P> {
         machine_core::machine_scopes::grant(&mut self.core, x)
     }
 
-    /// A vertex whose lock may be granted, and `None` exactly where there is none. It takes no memory, and nothing changes.
+    /// A vertex whose lock may be granted, and `None` exactly where there is none. It takes no
+    /// memory, and nothing changes.
     pub fn next_grant(&mut self) -> Option<Vertex>
         ensures some { IfSome result (λ x. MayGrantLock self.old.core x.0) }
         ensures none { IfNone result ((x : ℕ) → MayNotGrantLock self.old.core x) }
@@ -72,8 +84,9 @@ impl<P: Program> SnapMachine<P> {
         machine_core::machine_scopes::next_grant(&mut self.core)
     }
 
-    /// The scope of this centre has come, and has the machines `rest` still to come. Scopes take locks at the machine. Where there is not
-    /// enough memory, or as many scopes have come as may, `rest` comes back.
+    /// The scope of this centre has come, and has the machines `rest` still to come. Scopes take
+    /// locks at the machine. Where there is not enough memory, or as many scopes have come as may,
+    /// `rest` comes back.
     pub fn receive_ask(
         &mut self,
         scope: ScopeId,
@@ -84,9 +97,12 @@ impl<P: Program> SnapMachine<P> {
         requires is_new { IsNewAt self.old.core scope centre }
         requires machines { AreMachinesFor self.old.core scope rest.items }
         ensures place { OnOk result (come self.old.core.pipe < 4096) }
-        ensures received { OnOk result (HasReceivedMessage self.old.core self.new.core (Ask scope centre.0 (machine_numbers rest.items))) }
+        ensures received { OnOk result
+            (HasReceivedMessage self.old.core self.new.core
+            (Ask scope centre.0 (machine_numbers rest.items))) }
         ensures back { IfErr result (λ same. same ≡ rest) }
-        ensures unchanged { OnErr result (HasOnlyMadeRoom self.old.core self.new.core × (part_of self.new.core ≡ part_of self.old.core)) }
+        ensures unchanged { OnErr result (HasOnlyMadeRoom self.old.core self.new.core ×
+            (part_of self.new.core ≡ part_of self.old.core)) }
         ensures numbers { self.new.core.numbers ≡ self.old.core.numbers }
         ensures kept { self.new.kept ≡ self.old.kept }
         ensures program { self.new.program ≡ self.old.program }

@@ -27,7 +27,8 @@ impl<P: Program> SnapMachine<P> {
         crate::marking::begin(&mut self.core, &mut self.snaps, &mut self.seen, number);
     }
 
-    /// This snapshot is acknowledged: the updates of its section are outside no more. It takes no memory.
+    /// This snapshot is acknowledged: the updates of its section are outside no more. It takes no
+    /// memory.
     pub fn committed(&mut self, number: u32)
         ensures kept { self.new.kept ≡ with_committed number self.old.kept }
         ensures fewer { HasFewerOutside self.old.core self.new.core }
@@ -42,10 +43,17 @@ impl<P: Program> SnapMachine<P> {
     /// Word of an update elsewhere has come, be it a snapshot update or not. It takes no memory.
     pub fn learn(&mut self, done: Done)
         requires { CanLearnNews self.old.core done }
-        ensures learned { HasLearnedNews self.old.core self.old.kept self.new.core self.new.kept done }
+        ensures learned { HasLearnedNews self.old.core self.old.kept
+            self.new.core self.new.kept done }
         ensures kept { IsSameButRoom (with_begun done.number self.old.kept) self.new.kept }
-        ensures tasks { let now = self.new.core.numbers.tasks in now ≡ record self.old.core.numbers.tasks { task = now.task; pending = now.pending; asked = now.asked } }
-        ensures local { self.new.core.numbers.local ≡ record self.old.core.numbers.local { numbers = self.new.core.numbers.local.numbers } }
+        ensures tasks { let now = self.new.core.numbers.tasks in
+            now ≡ record self.old.core.numbers.tasks {
+              task = now.task;
+              pending = now.pending;
+              asked = now.asked;
+            } }
+        ensures local { self.new.core.numbers.local ≡
+            record self.old.core.numbers.local { numbers = self.new.core.numbers.local.numbers } }
         ensures program { self.new.program ≡ self.old.program }
         ensures places { self.new.core.by_place ≡ self.old.core.by_place }
         ensures terms { self.new.core.terms ≡ self.old.core.terms }
@@ -62,16 +70,20 @@ impl<P: Program> SnapMachine<P> {
 
     /// Makes the snapshot update of a ready scope of this machine whose vertex is pending.
     pub fn mark(&mut self, scope: ScopeId) -> Result<(), Refused>
-        ensures marked { OnOk result (HasMarked self.old.core self.old.kept self.new.core self.new.kept scope) }
+        ensures marked { OnOk result
+            (HasMarked self.old.core self.old.kept self.new.core self.new.kept scope) }
         ensures saved { HasSavedMore self.old.kept self.new.kept }
         ensures once { OnOk result (HasSavedOnce self.old.core self.old.kept self.new.kept scope) }
         ensures plans { OnOk result (HasEndedPlan self.old.core self.new.core scope) }
-        ensures not_now { IsErrOf result Refused.NotNow → MayMark scope (part_of self.old.core) → ⊥ }
-        ensures no_memory { IsErrOf result Refused.NoMemory → MayMark scope (part_of self.old.core) }
+        ensures not_now { IsErrOf result Refused.NotNow →
+            MayMark scope (part_of self.old.core) → ⊥ }
+        ensures no_memory { IsErrOf result Refused.NoMemory →
+            MayMark scope (part_of self.old.core) }
         ensures unchanged { OnErr result (HasOnlyMadeRoom self.old.core self.new.core) }
         ensures part { OnErr result (part_of self.new.core ≡ part_of self.old.core) }
         ensures same { OnErr result (IsSameButRoom self.old.kept self.new.kept) }
-        ensures local { self.new.core.numbers.local ≡ record self.old.core.numbers.local { kept = self.new.core.numbers.local.kept } }
+        ensures local { self.new.core.numbers.local ≡
+            record self.old.core.numbers.local { kept = self.new.core.numbers.local.kept } }
         ensures program { self.new.program ≡ self.old.program }
         ensures places { self.new.core.by_place ≡ self.old.core.by_place }
         ensures terms { self.new.core.terms ≡ self.old.core.terms }
@@ -94,7 +106,8 @@ impl<P: Program> SnapMachine<P> {
         crate::marking::may_mark(&self.core, scope)
     }
 
-    /// A scope of this home that may make its snapshot update now; `None` exactly where none may. It looks at the ready scopes alone.
+    /// A scope of this home that may make its snapshot update now; `None` exactly where none may.
+    /// It looks at the ready scopes alone.
     pub fn next_mark(&self) -> Option<ScopeId>
         ensures some { IfSome result (λ s. MayMark s (part_of self.now.core)) }
         ensures home { IfSome result (λ s. s.home ≡ self.now.core.numbers.local.me) }
@@ -117,8 +130,10 @@ impl<P: Program> SnapMachine<P> {
         ensures may { OnOk result (MaySendSection self.old.core self.old.kept) }
         ensures told { IfOk result (λ s. section_view s ≡ own_section self.old.kept) }
         ensures sent { OnOk result (IsSameButRoom (with_section self.old.kept) self.new.kept) }
-        ensures not_now { IsErrOf result Refused.NotNow → MayNotSendSection self.old.core self.old.kept }
-        ensures no_memory { IsErrOf result Refused.NoMemory → MaySendSection self.old.core self.old.kept }
+        ensures not_now { IsErrOf result Refused.NotNow →
+            MayNotSendSection self.old.core self.old.kept }
+        ensures no_memory { IsErrOf result Refused.NoMemory →
+            MaySendSection self.old.core self.old.kept }
         ensures unchanged { OnErr result (self.new.kept ≡ self.old.kept) }
         ensures core { self.new.core ≡ self.old.core }
         ensures program { self.new.program ≡ self.old.program }

@@ -14,19 +14,25 @@ use partition::machine_numbers::Numbers;
 use update_api::Program;
 
 impl<P: Program> SnapMachine<P> {
-    /// Makes the update of a ready scope of this machine, whose vertex is a task and not pending, and tells the other machines of the
-    /// scope. It is logged under the ticket, and kept before the marks where its vertex has no mark of the snapshot that is known, else
-    /// behind them.
+    /// Makes the update of a ready scope of this machine, whose vertex is a task and not pending,
+    /// and tells the other machines of the scope. It is logged under the ticket, and kept before
+    /// the marks where its vertex has no mark of the snapshot that is known, else behind them.
     pub fn update(&mut self, scope: ScopeId, ticket: u64) -> Result<(), Refused>
-        ensures updated { OnOk result (HasMadeUpdate (P.meaning self.old.program) self.old.core self.new.core scope ticket) }
+        ensures updated { OnOk result
+            (HasMadeUpdate (P.meaning self.old.program) self.old.core self.new.core scope ticket) }
         ensures run { OnOk result (HasRunOf self.old.core self.new.core scope) }
-        ensures logged { OnOk result (HasLogged self.old.core self.old.kept self.new.kept scope ticket) }
-        ensures not_now { IsErrOf result Refused.NotNow → MayUpdate scope (part_of self.old.core) 1 → ⊥ }
-        ensures no_memory { IsErrOf result Refused.NoMemory → MayUpdate scope (part_of self.old.core) 1 }
+        ensures logged { OnOk result
+            (HasLogged self.old.core self.old.kept self.new.kept scope ticket) }
+        ensures not_now { IsErrOf result Refused.NotNow →
+            MayUpdate scope (part_of self.old.core) 1 → ⊥ }
+        ensures no_memory { IsErrOf result Refused.NoMemory →
+            MayUpdate scope (part_of self.old.core) 1 }
         ensures unchanged { OnErr result (part_of self.new.core ≡ part_of self.old.core) }
         ensures same { OnErr result (IsSameButRoom self.old.kept self.new.kept) }
         ensures tasks { OnErr result (self.new.core.numbers.tasks ≡ self.old.core.numbers.tasks) }
-        ensures local { let old = self.old.core.numbers.local in let new = self.new.core.numbers.local in new ≡ record old { kept = new.kept; rows = new.rows; numbers = new.numbers } }
+        ensures local { let old = self.old.core.numbers.local in
+            let new = self.new.core.numbers.local in
+            new ≡ record old { kept = new.kept; rows = new.rows; numbers = new.numbers } }
         ensures program { self.new.program ≡ self.old.program }
         ensures places { self.new.core.by_place ≡ self.old.core.by_place }
         ensures terms { self.new.core.terms ≡ self.old.core.terms }
@@ -60,19 +66,25 @@ impl<P: Program> SnapMachine<P> {
         }
     }
 
-    /// Updates the vertex that the tasks pick, where it is not pending, its scope has this machine alone, and nobody holds or waits for
-    /// a lock of it: as if a scope of it were admitted, took each lock in turn and made its update. It is logged under the ticket, and kept
-    /// before the marks where its vertex has no mark of the snapshot that is known, else behind them.
+    /// Updates the vertex that the tasks pick, where it is not pending, its scope has this machine
+    /// alone, and nobody holds or waits for a lock of it: as if a scope of it were admitted, took
+    /// each lock in turn and made its update. It is logged under the ticket, and kept before the
+    /// marks where its vertex has no mark of the snapshot that is known, else behind them.
     pub fn update_at_once(&mut self, ticket: u64) -> Result<Vertex, Refused>
-        ensures updated { IfOk result (λ v. HasUpdatedPick (P.meaning self.old.program) self.old.core self.new.core v ticket) }
-        ensures run { OnOk result (HasRunAtOnce self.old.core.numbers.tasks self.new.core.numbers.tasks) }
-        ensures logged { IfOk result (λ v. HasLoggedAtOnce self.old.core self.old.kept self.new.kept v ticket) }
+        ensures updated { IfOk result (λ v.
+            HasUpdatedPick (P.meaning self.old.program) self.old.core self.new.core v ticket) }
+        ensures run { OnOk result
+            (HasRunAtOnce self.old.core.numbers.tasks self.new.core.numbers.tasks) }
+        ensures logged { IfOk result (λ v.
+            HasLoggedAtOnce self.old.core self.old.kept self.new.kept v ticket) }
         ensures not_now { IsErrOf result Refused.NotNow → HasNoneAtOnce self.old.core }
         ensures no_memory { IsErrOf result Refused.NoMemory → CanUpdatePick self.old.core }
         ensures unchanged { OnErr result (part_of self.new.core ≡ part_of self.old.core) }
         ensures same { OnErr result (IsSameButRoom self.old.kept self.new.kept) }
         ensures tasks { OnErr result (self.new.core.numbers.tasks ≡ self.old.core.numbers.tasks) }
-        ensures local { let old = self.old.core.numbers.local in let new = self.new.core.numbers.local in new ≡ record old { kept = new.kept; rows = new.rows; numbers = new.numbers } }
+        ensures local { let old = self.old.core.numbers.local in
+            let new = self.new.core.numbers.local in
+            new ≡ record old { kept = new.kept; rows = new.rows; numbers = new.numbers } }
         ensures program { self.new.program ≡ self.old.program }
         ensures terms { self.new.core.terms ≡ self.old.core.terms }
         ensures settings { SameSettings self.old.core self.new.core }
@@ -116,7 +128,8 @@ impl<P: Program> SnapMachine<P> {
         centre_to_update(&self.core, scope).is_some()
     }
 
-    /// A scope of this home that may make its update now; `None` exactly where none may. It looks at the ready scopes alone.
+    /// A scope of this home that may make its update now; `None` exactly where none may. It looks
+    /// at the ready scopes alone.
     pub fn next_update(&self) -> Option<ScopeId>
         ensures some { IfSome result (λ s. MayUpdate s (part_of self.now.core) 1) }
         ensures home { IfSome result (λ s. s.home ≡ self.now.core.numbers.local.me) }
@@ -125,8 +138,8 @@ impl<P: Program> SnapMachine<P> {
         machine_core::machine_turns::next_ready(&self.core)
     }
 
-    /// The last acknowledged snapshot that is known, where one behind it is to be asked for: so many updates are outside, and it wasn't
-    /// asked for yet.
+    /// The last acknowledged snapshot that is known, where one behind it is to be asked for: so
+    /// many updates are outside, and it wasn't asked for yet.
     pub fn ask(&mut self, half: u64) -> Option<u32>
         ensures behind { result ≡ asked_behind half self.old.kept }
         ensures kept { self.new.kept ≡ with_asking half self.old.kept }
@@ -139,7 +152,8 @@ impl<P: Program> SnapMachine<P> {
 
 /// The vertex of a scope that may make its update now.
 fn centre_to_update(core: &Core, scope: ScopeId) -> Option<Vertex>
-    ensures some { IfSome result (λ v. (flight_at core.now.pipe scope ≡ Some v) × MayUpdate scope (part_of core.now) 1) }
+    ensures some { IfSome result (λ v. (flight_at core.now.pipe scope ≡ Some v) ×
+        MayUpdate scope (part_of core.now) 1) }
     ensures none { result ≡ None → MayUpdate scope (part_of core.now) 1 → ⊥ }
 {
     if !core.pipe.is_ready(scope) {

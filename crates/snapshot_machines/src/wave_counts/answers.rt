@@ -15,8 +15,9 @@ pub struct WaveAnswer {
     pub counted: Counted,
 }
 
-/// How many messages to machines have left a machine's outboxes, how many of machines it received, and the wave that it has to
-/// answer still. A count stands still at the greatest number, and tells nothing then.
+/// How many messages to machines have left a machine's outboxes, how many of machines it received,
+/// and the wave that it has to answer still. A count stands still at the greatest number, and tells
+/// nothing then.
 #[derive(Drop)]
 pub struct WaveCounts {
     sent: u64,
@@ -62,8 +63,8 @@ impl WaveCounts {
         }
     }
 
-    /// How many messages to machines were put out, where so many wait in the outboxes: want of memory exactly where a count has
-    /// ended.
+    /// How many messages to machines were put out, where so many wait in the outboxes: want of
+    /// memory exactly where a count has ended.
     pub fn put_out(&self, waiting: u128) -> Result<u64, NoMemory>
         ensures put_out { IfOk result (λ sent. sent ≡ self.now.sent + waiting) }
         ensures told { OnOk result (MayTellCounts self.now waiting) }
@@ -77,8 +78,9 @@ impl WaveCounts {
         }
     }
 
-    /// Whether the counts are far from their end, where so many messages wait in the outboxes: they can be told also when one message more
-    /// was received and one more for each machine was put out.
+    /// Whether the counts are far from their end, where so many messages wait in the outboxes: they
+    /// can be told also when one message more was received and one more for each machine was put
+    /// out.
     pub fn has_slack(&self, waiting: u128) -> bool
         ensures { result ≡ true → HasSlackFor self.now waiting }
     {
@@ -102,8 +104,9 @@ impl WaveCounts {
         self.held.is_some()
     }
 
-    /// The answer to the wave that is held, where one is and the machine's share is done: so many messages put out and updates
-    /// made, what it has received, and whether it is idle. Then none is held any more.
+    /// The answer to the wave that is held, where one is and the machine's share is done: so many
+    /// messages put out and updates made, what it has received, and whether it is idle. Then none
+    /// is held any more.
     pub fn answer(&mut self, done: bool, sent: u64, updates: u64, idle: bool) -> Option<WaveAnswer>
         ensures { HasAnsweredWave self.old self.new done sent updates idle result }
     {

@@ -11,7 +11,8 @@ use std::alloc::Global;
 fn read_full<D: Disk>(disk: &mut D, at: u64, buf: &mut [u8]) -> Result<usize, Failed>
     requires { at + length buf.old < 2 ^ 64 }
     ensures bound { IfOk result (λ count. count ≤ length buf.new) }
-    ensures bytes { IsTrue D.told → IfOk result (λ count. IsFilled (D.past disk.old).now.seen at buf.new count) }
+    ensures bytes { IsTrue D.told →
+        IfOk result (λ count. IsFilled (D.past disk.old).now.seen at buf.new count) }
     ensures past { IsTrue D.told → D.past disk.new ≡ D.past disk.old }
     ensures same { D.same disk.old disk.new }
     ensures counts { Counts (D.faults disk.old) (D.faults disk.new) result }
@@ -36,7 +37,8 @@ pub fn read_front<D: Disk>(
 ) -> Result<Vec<u8>, JournalFault>
     requires { at + count < 2 ^ 64 }
     ensures most { IfOk result (λ front. length front.items ≤ count) }
-    ensures bytes { IsTrue D.told → IfOk result (λ front. front.items ≡ take count (drop at (D.past disk.old).now.seen)) }
+    ensures bytes { IsTrue D.told →
+        IfOk result (λ front. front.items ≡ take count (drop at (D.past disk.old).now.seen)) }
     ensures past { IsTrue D.told → D.past disk.new ≡ D.past disk.old }
     ensures same { D.same disk.old disk.new }
     ensures fault { IfErr result (IsWhyUnread (D.faults disk.old) (D.faults disk.new)) }

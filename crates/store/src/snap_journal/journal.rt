@@ -13,8 +13,9 @@ use gl_outside::Disk;
 use std::alloc::Global;
 use std::marker::Model;
 
-/// A store on a disk, read and checked. Contracts see its disk, what it is for, how many snapshots and bytes it has, and whether
-/// an earlier call answered `DiskFault`: then it has to be opened again.
+/// A store on a disk, read and checked. Contracts see its disk, what it is for, how many snapshots
+/// and bytes it has, and whether an earlier call answered `DiskFault`: then it has to be opened
+/// again.
 #[derive(Drop)]
 pub struct Journal<D: Disk> {
     pub(crate) disk: D,
@@ -32,17 +33,26 @@ impl<D: Disk> Model for Journal<D> {
 
     ghost Value = { JournalState D };
 
-    ghost view = { λ j. record { disk = j.disk; header = j.header; count = j.count; length = j.gate + 1; failed = j.failed } };
+    ghost view = { λ j. record {
+      disk = j.disk;
+      header = j.header;
+      count = j.count;
+      length = j.gate + 1;
+      failed = j.failed;
+    } };
 
-    ghost invariant = { λ j. KnowsDisk (IsTrue D.told) j.header j.count j.gate j.failed (D.past j.disk) };
+    ghost invariant = { λ j.
+        KnowsDisk (IsTrue D.told) j.header j.count j.gate j.failed (D.past j.disk) };
 }
 
 impl<D: Disk> Journal<D> {
     /// How many snapshots are stored. Whatever a crash now leaves has them.
     pub fn count(&self) -> u32
         ensures count { result ≡ self.now.count }
-        ensures stored { IsTrue D.told → self.now.failed ≡ false → result ≡ length (snapshots_in D.past self.now) }
-        ensures durable { IsTrue D.told → self.now.failed ≡ false → AllStandFor self.now.header (snapshots_in D.past self.now) (D.past self.now.disk) }
+        ensures stored { IsTrue D.told → self.now.failed ≡ false →
+            result ≡ length (snapshots_in D.past self.now) }
+        ensures durable { IsTrue D.told → self.now.failed ≡ false →
+            AllStandFor self.now.header (snapshots_in D.past self.now) (D.past self.now.disk) }
     {
         self.count
     }
@@ -57,14 +67,17 @@ impl<D: Disk> Journal<D> {
     /// How many bytes the store has.
     pub fn length(&self) -> u64
         ensures length { result ≡ self.now.length }
-        ensures stored { IsTrue D.told → self.now.failed ≡ false → result ≡ 65 + records_size (snapshots_in D.past self.now) }
+        ensures stored { IsTrue D.told → self.now.failed ≡ false →
+            result ≡ 65 + records_size (snapshots_in D.past self.now) }
     {
         self.gate + 1
     }
 
-    /// How many entries the order of the last snapshot has: by the store's length, since all else of a record has one size.
+    /// How many entries the order of the last snapshot has: by the store's length, since all else
+    /// of a record has one size.
     pub fn entries(&self) -> u64
-        ensures { IsTrue D.told → self.now.failed ≡ false → result ≡ length (stored_order (snapshots_in D.past self.now)) }
+        ensures { IsTrue D.told → self.now.failed ≡ false →
+            result ≡ length (stored_order (snapshots_in D.past self.now)) }
     {
         let apart = 64 + u128::from(self.count) * (9 + u128::from(body_size(&self.header, 0)));
         (u128::from(self.gate).saturating_sub(apart) / 16) as u64
@@ -77,31 +90,43 @@ impl<D: Disk> Journal<D> {
         self.disk
     }
 
-    /// Adds the record of a snapshot, whose number is one above those that are stored, in the form of a store for this header.
-    /// At `Ok` it is acknowledged: whatever a crash leaves from then on has it. A crash during the call leaves the snapshots
-    /// from before it, or these and the new one. It takes its memory before it writes. `Full` comes where 4096 snapshots are stored,
-    /// or the store would have more than 2 to the 30th bytes. After `DiskFault` either may be there, and each later call is
-    /// refused with `Failed`: open the store again.
+    /// Adds the record of a snapshot, whose number is one above those that are stored, in the form
+    /// of a store for this header. At `Ok` it is acknowledged: whatever a crash leaves from then on
+    /// has it. A crash during the call leaves the snapshots from before it, or these and the new
+    /// one. It takes its memory before it writes. `Full` comes where 4096 snapshots are stored, or
+    /// the store would have more than 2 to the 30th bytes. After `DiskFault` either may be there,
+    /// and each later call is refused with `Failed`: open the store again.
     pub fn append(&mut self, alloc: Global, next: &Record) -> Result<(), JournalFault>
         requires fits { RecordFits next.now }
         requires form { IsBody self.old.header (1 + self.old.count) (body_bytes next.now) }
 
-        ensures acknowledged { IsTrue D.told → OnOk result (snapshots_in D.past self.new ≡ snapshots_in D.past self.old ++ body_bytes next.now ∷ []) }
-        ensures durable { IsTrue D.told → OnOk result (AllStandFor self.new.header (snapshots_in D.past self.old ++ body_bytes next.now ∷ []) (D.past self.new.disk)) }
+        ensures acknowledged { IsTrue D.told →
+            OnOk result (snapshots_in D.past self.new ≡ snapshots_in D.past
+            self.old ++ body_bytes next.now ∷ []) }
+        ensures durable { IsTrue D.told →
+            OnOk result (AllStandFor self.new.header
+            (snapshots_in D.past self.old ++ body_bytes next.now ∷ []) (D.past self.new.disk)) }
 
         // A crash at any moment of the call.
-        ensures any_moment { IsTrue D.told → self.old.failed ≡ false → LeavesOnly (D.past self.old.disk) (D.past self.new.disk)
+        ensures any_moment { IsTrue D.told → self.old.failed ≡ false →
+            LeavesOnly (D.past self.old.disk) (D.past self.new.disk)
             (IsBeforeOrAfter self.old.header (snapshots_in D.past self.old) (body_bytes next.now)) }
 
         ensures header { self.new.header ≡ self.old.header }
         ensures counted { OnOk result (self.new.count ≡ self.old.count + 1) }
-        ensures grown { OnOk result (self.new.length ≡ self.old.length + (9 + length (body_bytes next.now))) }
+        ensures grown { OnOk result
+            (self.new.length ≡ self.old.length + (9 + length (body_bytes next.now))) }
         ensures well { OnOk result ((self.old.failed ≡ false) × (self.new.failed ≡ false)) }
-        ensures refused { IfErr result (IsWhyNotAdded (self.new ≡ self.old) self.old.failed self.new.failed (D.faults self.old.disk)
-            (D.faults self.new.disk) self.old.count self.old.length (9 + length (body_bytes next.now))) }
+        ensures refused { IfErr result
+            (IsWhyNotAdded (self.new ≡ self.old) self.old.failed self.new.failed
+            (D.faults self.old.disk)
+            (D.faults self.new.disk) self.old.count self.old.length
+            (9 + length (body_bytes next.now))) }
         ensures failed { self.old.failed ≡ true → result ≡ Err JournalFault.Failed }
-        ensures full { self.old.failed ≡ false → IsFullFor self.old.count self.old.length (9 + length (body_bytes next.now))
-            → (result ≡ Err (JournalFault.Full self.old.count self.old.length)) ⊎ (result ≡ Err JournalFault.NoMemory) }
+        ensures full { self.old.failed ≡ false →
+            IsFullFor self.old.count self.old.length (9 + length (body_bytes next.now))
+            → (result ≡ Err (JournalFault.Full self.old.count self.old.length)) ⊎
+            (result ≡ Err JournalFault.NoMemory) }
         ensures same { D.same self.old.disk self.new.disk }
         ensures later { D.faults self.old.disk ≤ D.faults self.new.disk }
     {
@@ -112,20 +137,29 @@ impl<D: Disk> Journal<D> {
         self.put(&piece)
     }
 
-    /// Adds a record, by its bytes behind the gate: writes them with a closed gate behind them, syncs, opens the gate, and syncs.
+    /// Adds a record, by its bytes behind the gate: writes them with a closed gate behind them,
+    /// syncs, opens the gate, and syncs.
     fn put(&mut self, piece: &[u8]) -> Result<(), JournalFault>
         requires follows { FollowsOn self.old.header self.old.count piece.now }
         requires well { self.old.failed ≡ false }
 
-        ensures acknowledged { IsTrue D.told → OnOk result (snapshots_in D.past self.new ≡ snapshots_in D.past self.old ++ body_between piece.now ∷ []) }
-        ensures durable { IsTrue D.told → OnOk result (AllStandFor self.new.header (snapshots_in D.past self.old ++ body_between piece.now ∷ []) (D.past self.new.disk)) }
-        ensures any_moment { IsTrue D.told → LeavesOnly (D.past self.old.disk) (D.past self.new.disk)
-            (IsBeforeOrAfter self.old.header (snapshots_in D.past self.old) (body_between piece.now)) }
+        ensures acknowledged { IsTrue D.told →
+            OnOk result (snapshots_in D.past self.new ≡ snapshots_in D.past
+            self.old ++ body_between piece.now ∷ []) }
+        ensures durable { IsTrue D.told →
+            OnOk result (AllStandFor self.new.header
+            (snapshots_in D.past self.old ++ body_between piece.now ∷ []) (D.past self.new.disk)) }
+        ensures any_moment { IsTrue D.told →
+            LeavesOnly (D.past self.old.disk) (D.past self.new.disk)
+            (IsBeforeOrAfter self.old.header (snapshots_in D.past self.old)
+            (body_between piece.now)) }
         ensures header { self.new.header ≡ self.old.header }
         ensures counted { OnOk result (self.new.count ≡ self.old.count + 1) }
         ensures grown { OnOk result (self.new.length ≡ self.old.length + length piece.now) }
         ensures well { OnOk result (self.new.failed ≡ false) }
-        ensures refused { IfErr result (IsWhyNotAdded (self.new ≡ self.old) self.old.failed self.new.failed (D.faults self.old.disk)
+        ensures refused { IfErr result
+            (IsWhyNotAdded (self.new ≡ self.old) self.old.failed self.new.failed
+            (D.faults self.old.disk)
             (D.faults self.new.disk) self.old.count self.old.length (length piece.now)) }
         ensures full { IsFullFor self.old.count self.old.length (length piece.now)
             → result ≡ Err (JournalFault.Full self.old.count self.old.length) }

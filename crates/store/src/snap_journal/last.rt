@@ -14,15 +14,22 @@ use gl_outside::Disk;
 use std::alloc::Global;
 
 impl<D: Disk> Journal<D> {
-    /// The last snapshot, where there is one. It is read again from the disk, with one record in memory at a time beside the order.
-    /// After `DiskFault` each later call is refused with `Failed`: open the store again.
+    /// The last snapshot, where there is one. It is read again from the disk, with one record in
+    /// memory at a time beside the order. After `DiskFault` each later call is refused with
+    /// `Failed`: open the store again.
     pub fn last(&mut self, alloc: Global) -> Result<Option<Base>, JournalFault>
-        ensures last { IsTrue D.told → IfOk result (IsLast self.old.header (snapshots_in D.past self.old)) }
+        ensures last { IsTrue D.told →
+            IfOk result (IsLast self.old.header (snapshots_in D.past self.old)) }
         ensures fits { IfOk result (λ last. IfSome last (FitsHeader self.old.header)) }
         ensures well { IfOk result (λ last. (self.old.failed ≡ false) × (self.new.failed ≡ false)) }
-        ensures refused { IfErr result (IsWhyNoLast (IsTrue D.told) self.old.failed self.new.failed (D.faults self.old.disk) (D.faults self.new.disk)) }
+        ensures refused { IfErr result
+            (IsWhyNoLast (IsTrue D.told) self.old.failed self.new.failed (D.faults self.old.disk)
+            (D.faults self.new.disk)) }
         ensures past { IsTrue D.told → D.past self.new.disk ≡ D.past self.old.disk }
-        ensures kept { self.new ≡ record self.old { disk = self.new.disk; failed = self.new.failed } }
+        ensures kept { self.new ≡ record self.old {
+          disk = self.new.disk;
+          failed = self.new.failed;
+        } }
         ensures same { D.same self.old.disk self.new.disk }
         ensures later { D.faults self.old.disk ≤ D.faults self.new.disk }
     {
@@ -55,9 +62,12 @@ fn read_last<D: Disk>(
     disk: &mut D,
     header: &Header,
 ) -> Result<Option<Base>, JournalFault>
-    ensures last { IsTrue D.told → IfOk result (IsLast header.now (stored_in header.now (D.past disk.old).now.seen)) }
+    ensures last { IsTrue D.told →
+        IfOk result (IsLast header.now (stored_in header.now (D.past disk.old).now.seen)) }
     ensures fits { IfOk result (λ last. IfSome last (FitsHeader header.now)) }
-    ensures fault { IfErr result (IsWhyNotOpened (IsTrue D.told) header.now (D.past disk.old).now.seen (D.faults disk.old) (D.faults disk.new)) }
+    ensures fault { IfErr result
+        (IsWhyNotOpened (IsTrue D.told) header.now (D.past disk.old).now.seen
+        (D.faults disk.old) (D.faults disk.new)) }
     ensures past { IsTrue D.told → D.past disk.new ≡ D.past disk.old }
     ensures same { D.same disk.old disk.new }
     ensures later { D.faults disk.old ≤ D.faults disk.new }
@@ -74,7 +84,8 @@ fn read_last<D: Disk>(
 fn base_of(alloc: Global, header: &Header, found: Found) -> Result<Base, NoMemory>
     requires within { found.gate + 1 < 2 ^ 64 }
     requires form { HasSections header.now found.body.items }
-    ensures { IfOk result (IsFoundBase header.now found.count found.gate found.entries.items found.body.items) }
+    ensures { IfOk result
+        (IsFoundBase header.now found.count found.gate found.entries.items found.body.items) }
 {
     let numbers = numbers_of(alloc, header, &found.body)?;
     let order = in_order(found.entries)?;

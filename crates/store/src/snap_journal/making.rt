@@ -9,17 +9,23 @@ use crate::snap_journal::JournalFault;
 use crate::store_format::{Header, StoreFault, new_store};
 use gl_outside::Disk;
 
-/// Makes a store without snapshots on a disk that has no bytes: writes its 65 bytes, and syncs. `NotEmpty` tells how many bytes
-/// there are, and a disk that has some stays as it is. After `Ok` a crash leaves just these 65 bytes; of a crash before it nothing
-/// is promised.
+/// Makes a store without snapshots on a disk that has no bytes: writes its 65 bytes, and syncs.
+/// `NotEmpty` tells how many bytes there are, and a disk that has some stays as it is. After `Ok` a
+/// crash leaves just these 65 bytes; of a crash before it nothing is promised.
 pub fn init<D: Disk>(disk: &mut D, header: &Header) -> Result<(), JournalFault>
     requires { IsAllowed header.now }
-    ensures bytes { IsTrue D.told → OnOk result ((D.past disk.new).now.seen ≡ store_header header.now ++ 0 ∷ []) }
-    ensures images { IsTrue D.told → OnOk result ((image : List ℕ) → images_now (D.past disk.new) image → image ≡ store_header header.now ++ 0 ∷ []) }
+    ensures bytes { IsTrue D.told →
+        OnOk result ((D.past disk.new).now.seen ≡ store_header header.now ++ 0 ∷ []) }
+    ensures images { IsTrue D.told →
+        OnOk result ((image : List ℕ) → images_now (D.past disk.new) image →
+        image ≡ store_header header.now ++ 0 ∷ []) }
     ensures stands { IsTrue D.told → OnOk result (AllStandFor header.now [] (D.past disk.new)) }
     ensures empty { IsTrue D.told → OnOk result (length (D.past disk.old).now.seen ≡ 0) }
-    ensures fault { IfErr result (IsWhyNotMade (IsTrue D.told) (length (D.past disk.old).now.seen) (D.faults disk.old) (D.faults disk.new)) }
-    ensures kept { IsTrue D.told → 0 < length (D.past disk.old).now.seen → D.past disk.new ≡ D.past disk.old }
+    ensures fault { IfErr result
+        (IsWhyNotMade (IsTrue D.told) (length (D.past disk.old).now.seen)
+        (D.faults disk.old) (D.faults disk.new)) }
+    ensures kept { IsTrue D.told → 0 < length (D.past disk.old).now.seen →
+        D.past disk.new ≡ D.past disk.old }
     ensures same { D.same disk.old disk.new }
     ensures later { D.faults disk.old ≤ D.faults disk.new }
 {

@@ -17,17 +17,19 @@ pub const OPEN: u8 = 1;
 /// How many bytes an open gate, a length, a number and a count of entries have.
 const HEAD: u64 = 17;
 
-/// What the first bytes at a gate say, up to 17 of them: nothing where the gate isn't open, and else the length of a body that is
-/// there.
+/// What the first bytes at a gate say, up to 17 of them: nothing where the gate isn't open, and
+/// else the length of a body that is there.
 fn length_in(header: &Header, at: u64, len: u64, head: &[u8]) -> Result<Option<u64>, StoreFault>
     requires { at + length head.now ≤ len }
-    ensures next { (number : ℕ) (bytes : List ℕ) → head.now ≡ take 17 bytes → at + length bytes ≡ len
+    ensures next { (number : ℕ) (bytes : List ℕ) →
+        head.now ≡ take 17 bytes → at + length bytes ≡ len
         → IfOk result (IsNextLength header.now number at bytes) }
     ensures here { IfOk result (λ next. at < len) }
     ensures room { IfOk result (λ next. IfSome next (λ size. at + 10 + size ≤ len)) }
     ensures least { IfOk result (λ next. IfSome next (λ size. 8 ≤ size)) }
     ensures small { IfOk result (λ next. IfSome next (λ size. size < 2 ^ 38)) }
-    ensures fault { (number : ℕ) (bytes : List ℕ) → head.now ≡ take 17 bytes → at + length bytes ≡ len
+    ensures fault { (number : ℕ) (bytes : List ℕ) →
+        head.now ≡ take 17 bytes → at + length bytes ≡ len
         → IfErr result (λ fault. bodies_from header.now number at 0 bytes ≡ Err fault) }
 {
     if head.is_empty() {
@@ -49,7 +51,8 @@ fn length_in(header: &Header, at: u64, len: u64, head: &[u8]) -> Result<Option<u
     Ok(Some(size))
 }
 
-/// Reads what stands at a gate: nothing where it isn't open, and else the length of a body that is there.
+/// Reads what stands at a gate: nothing where it isn't open, and else the length of a body that is
+/// there.
 fn next_length<D: Disk>(
     alloc: Global,
     disk: &mut D,
@@ -60,12 +63,15 @@ fn next_length<D: Disk>(
 ) -> Result<Option<u64>, JournalFault>
     requires inside { at ≤ len }
     requires len { IsTrue D.told → len ≡ length (D.past disk.old).now.seen }
-    ensures next { IsTrue D.told → IfOk result (IsNextLength header.now number at (drop at (D.past disk.old).now.seen)) }
+    ensures next { IsTrue D.told →
+        IfOk result (IsNextLength header.now number at (drop at (D.past disk.old).now.seen)) }
     ensures here { IfOk result (λ next. at < len) }
     ensures room { IfOk result (λ next. IfSome next (λ size. at + 10 + size ≤ len)) }
     ensures least { IfOk result (λ next. IfSome next (λ size. 8 ≤ size)) }
     ensures small { IfOk result (λ next. IfSome next (λ size. size < 2 ^ 38)) }
-    ensures fault { IfErr result (IsWhyNot (IsTrue D.told) header.now number at (D.past disk.old).now.seen (D.faults disk.old) (D.faults disk.new)) }
+    ensures fault { IfErr result
+        (IsWhyNot (IsTrue D.told) header.now number at (D.past disk.old).now.seen
+        (D.faults disk.old) (D.faults disk.new)) }
     ensures past { IsTrue D.told → D.past disk.new ≡ D.past disk.old }
     ensures same { D.same disk.old disk.new }
     ensures later { D.faults disk.old ≤ D.faults disk.new }
@@ -107,8 +113,8 @@ fn check_body(
     }
 }
 
-/// Reads what stands at a gate, and tells whether that is a record. Its body takes the place of the one that was read before, whose
-/// memory is given back first; where there is none, that one stays.
+/// Reads what stands at a gate, and tells whether that is a record. Its body takes the place of the
+/// one that was read before, whose memory is given back first; where there is none, that one stays.
 pub fn next_body<D: Disk>(
     alloc: Global,
     disk: &mut D,
@@ -120,13 +126,17 @@ pub fn next_body<D: Disk>(
 ) -> Result<bool, JournalFault>
     requires inside { at ≤ len }
     requires len { IsTrue D.told → len ≡ length (D.past disk.old).now.seen }
-    ensures next { IsTrue D.told → IfOk result (λ more. IsNextBody header.now number at (D.past disk.old).now.seen body.new.items more) }
+    ensures next { IsTrue D.told →
+        IfOk result (λ more.
+        IsNextBody header.now number at (D.past disk.old).now.seen body.new.items more) }
     ensures kept { IfOk result (λ more. more ≡ false → body.new ≡ body.old) }
     ensures here { IfOk result (λ more. at < len) }
     ensures ascends { IfOk result (λ more. more ≡ true → at + 10 + length body.new.items ≤ len) }
     ensures numbers { IfOk result (λ more. more ≡ true → number < 4294967295) }
     ensures form { IfOk result (λ more. more ≡ true → IsBody header.now number body.new.items) }
-    ensures fault { IfErr result (IsWhyNot (IsTrue D.told) header.now number at (D.past disk.old).now.seen (D.faults disk.old) (D.faults disk.new)) }
+    ensures fault { IfErr result
+        (IsWhyNot (IsTrue D.told) header.now number at (D.past disk.old).now.seen
+        (D.faults disk.old) (D.faults disk.new)) }
     ensures past { IsTrue D.told → D.past disk.new ≡ D.past disk.old }
     ensures same { D.same disk.old disk.new }
     ensures later { D.faults disk.old ≤ D.faults disk.new }

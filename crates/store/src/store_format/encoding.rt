@@ -11,7 +11,8 @@ use std::alloc::Global;
 
 /// The bytes of an entry, by its fields.
 fn entry_fields(kind: u8, machine: u16, vertex: u32, ticket: u64) -> [u8; 16]
-    ensures { result ≡ (kind ∷ 0 ∷ []) ++ (big_bytes 2 machine ++ (big_bytes 4 vertex ++ big_bytes 8 ticket)) }
+    ensures { result ≡ (kind ∷ 0 ∷ []) ++ (big_bytes 2
+        machine ++ (big_bytes 4 vertex ++ big_bytes 8 ticket)) }
 {
     let mut bytes = [0; 16];
     bytes[0] = kind;
@@ -113,7 +114,8 @@ fn push_section(bytes: &mut Vec<u8>, part: &SavedPart) -> Result<(), NoMemory>
 /// Adds the sections of all machines.
 fn push_sections(bytes: &mut Vec<u8>, sections: &[SavedPart]) -> Result<(), NoMemory>
     requires { All PartFits sections.now }
-    ensures { OnOk result (bytes.new.items ≡ bytes.old.items ++ flat_map section_bytes sections.now) }
+    ensures { OnOk result
+        (bytes.new.items ≡ bytes.old.items ++ flat_map section_bytes sections.now) }
 {
     for part in sections {
         push_section(bytes, part)?;

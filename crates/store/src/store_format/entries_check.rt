@@ -6,7 +6,8 @@ use crate::store_format::Header;
 use crate::store_format::fields::{check_within, u64_at};
 use graph_atoms::atom_file::{u16_at, u32_at};
 
-/// The kind of a Go, and one below it that of a Restart, which no machine makes and which has no vertex.
+/// The kind of a Go, and one below it that of a Restart, which no machine makes and which has no
+/// vertex.
 pub const GO: u8 = 1;
 
 /// The tickets of a snapshot are below so many times its number.
@@ -42,7 +43,8 @@ fn check_entry(
     requires inside { at + 16 ≤ length body.now }
     ensures none { IfOk result (λ _. entry_fault header.now number least body.now at ≡ None) }
     ensures rank { IfOk result (λ found. found ≡ rank_at body.now at) }
-    ensures fault { IfErr result (λ place. entry_fault header.now number least body.now at ≡ Some place) }
+    ensures fault { IfErr result (λ place.
+        entry_fault header.now number least body.now at ≡ Some place) }
     ensures inside { IfErr result (λ place. place < length body.now) }
 {
     let kind = body[at];
@@ -65,7 +67,8 @@ fn check_entry(
 pub fn check_entries(header: &Header, number: u32, body: &[u8], count: u32) -> Result<(), usize>
     requires { 8 + 16 * count ≤ length body.now }
     ensures none { OnOk result (entries_fault header.now number 0 count body.now 8 ≡ None) }
-    ensures fault { IfErr result (λ place. entries_fault header.now number 0 count body.now 8 ≡ Some place) }
+    ensures fault { IfErr result (λ place.
+        entries_fault header.now number 0 count body.now 8 ≡ Some place) }
     ensures inside { IfErr result (λ place. place < length body.now) }
 {
     let mut least = 0;

@@ -48,9 +48,11 @@ fn rank_of(entry: &Entry) -> u128
     }
 }
 
-/// Puts the entries of records, which stand one record behind the other, into the order of the snapshot that these end with.
+/// Puts the entries of records, which stand one record behind the other, into the order of the
+/// snapshot that these end with.
 pub fn in_order(entries: Vec<Entry>) -> Result<Vec<Entry>, NoMemory>
-    ensures { IfOk result (λ order. (bodies : List (List ℕ)) → entries.items ≡ flat_map body_entries bodies
+    ensures { IfOk result (λ order. (bodies : List (List ℕ)) →
+        entries.items ≡ flat_map body_entries bodies
         → order.items ≡ stored_order bodies) }
 {
     let mut order = entries;

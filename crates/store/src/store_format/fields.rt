@@ -12,7 +12,8 @@ pub fn u64_at(bytes: &[u8], at: usize) -> u64
     BigEndian::read_u64(&bytes[at..])
 }
 
-/// Looks whether a number is at least `least` and below `limit`. Where it isn't, the place is handed back.
+/// Looks whether a number is at least `least` and below `limit`. Where it isn't, the place is
+/// handed back.
 pub fn check_within(least: u64, limit: u64, number: u64, place: usize) -> Result<(), usize>
     ensures least { OnOk result (least ≤ number) }
     ensures limit { OnOk result (number < limit) }

@@ -15,7 +15,8 @@ const WORD: u64 = 0x474c_4142_5354_4f52;
 /// How many bytes the header has.
 pub const HEADER: usize = 64;
 
-/// Looks whether the field of so many bytes at a place is there, and holds a number from `least` to `most`.
+/// Looks whether the field of so many bytes at a place is there, and holds a number from `least` to
+/// `most`.
 fn check_field(
     bytes: &[u8],
     at: usize,

@@ -28,11 +28,13 @@ fn put_number(numbers: &mut [u64], key: u32, number: u64)
     }
 }
 
-/// Puts so many numbers, which stand behind their keys from a place on, in the places of these keys.
+/// Puts so many numbers, which stand behind their keys from a place on, in the places of these
+/// keys.
 fn put_saved(numbers: &mut [u64], body: &[u8], at: usize, count: u32)
     requires { at + 12 * count ≤ length body.now }
     ensures { (key : ℕ) → key < length numbers.old
-        → slice_index numbers.new key ≡ saved_or (slice_index numbers.old key) (saved_at count body.now at) key }
+        → slice_index numbers.new key ≡ saved_or (slice_index numbers.old key)
+        (saved_at count body.now at) key }
 {
     for i in 0..count as usize {
         let place = at + 12 * i;
@@ -46,7 +48,8 @@ fn put_row(numbers: &mut [u64], body: &[u8], at: usize) -> usize
     requires whole { row_end body.now at ≤ length body.now }
     ensures end { result ≡ row_end body.now at }
     ensures numbers { (key : ℕ) → key < length numbers.old
-        → slice_index numbers.new key ≡ saved_or (slice_index numbers.old key) (saved_in_row body.now at) key }
+        → slice_index numbers.new key ≡ saved_or (slice_index numbers.old key)
+        (saved_in_row body.now at) key }
 {
     let count = u32_at(body, at);
     put_saved(numbers, body, at + 4, count);
@@ -57,9 +60,11 @@ fn put_row(numbers: &mut [u64], body: &[u8], at: usize) -> usize
 fn put_sections(header: &Header, body: &[u8], vertices: &mut [u64], edges: &mut [u64])
     requires { HasSections header.now body.now }
     ensures vertices { (key : ℕ) → key < length vertices.old → slice_index vertices.new key
-        ≡ saved_or (slice_index vertices.old key) (saved_vertices_from header.now.machines body.now (sections_place body.now)) key }
+        ≡ saved_or (slice_index vertices.old key)
+        (saved_vertices_from header.now.machines body.now (sections_place body.now)) key }
     ensures edges { (key : ℕ) → key < length edges.old → slice_index edges.new key
-        ≡ saved_or (slice_index edges.old key) (saved_edges_from header.now.machines body.now (sections_place body.now)) key }
+        ≡ saved_or (slice_index edges.old key)
+        (saved_edges_from header.now.machines body.now (sections_place body.now)) key }
 {
     let mut at = 8 + 16 * u32_at(body, 4) as usize;
     'sections: for _done in 0..header.machines {
@@ -71,7 +76,8 @@ fn put_sections(header: &Header, body: &[u8], vertices: &mut [u64], edges: &mut 
 /// The numbers of a body.
 pub fn numbers_of(alloc: Global, header: &Header, body: &[u8]) -> Result<Numbers, NoMemory>
     requires { HasSections header.now body.now }
-    ensures { IfOk result (λ numbers. AreNumbersOf header.now body.now numbers.vertices.items numbers.edges.items) }
+    ensures { IfOk result (λ numbers.
+        AreNumbersOf header.now body.now numbers.vertices.items numbers.edges.items) }
 {
     let mut vertices = vec![in alloc; 0u64; header.n as usize]?;
     let mut edges = vec![in alloc; 0u64; header.m as usize]?;

@@ -27,12 +27,16 @@ pub fn all_keys(alloc: Global, count: u32) -> Result<Keys, NoMemory>
     Ok(Keys { marks, left: count })
 }
 
-/// Looks at the key at a place, which may not be below `least`, and marks it. Tells the least key that may follow.
+/// Looks at the key at a place, which may not be below `least`, and marks it. Tells the least key
+/// that may follow.
 fn check_key(marks: &mut [bool], key: u32, least: u64, place: usize) -> Result<u64, usize>
-    ensures none { IfOk result (λ _. (taken : List ℕ) → AreTaken marks.old taken → key_fault (length marks.old) taken least key place ≡ None) }
+    ensures none { IfOk result (λ _. (taken : List ℕ) → AreTaken marks.old taken →
+        key_fault (length marks.old) taken least key place ≡ None) }
     ensures next { IfOk result (λ next. next ≡ key + 1) }
-    ensures marked { IfOk result (λ _. (taken : List ℕ) → AreTaken marks.old taken → AreTaken marks.new (key ∷ taken)) }
-    ensures fault { IfErr result (λ at. (taken : List ℕ) → AreTaken marks.old taken → key_fault (length marks.old) taken least key place ≡ Some at) }
+    ensures marked { IfOk result (λ _. (taken : List ℕ) → AreTaken marks.old taken →
+        AreTaken marks.new (key ∷ taken)) }
+    ensures fault { IfErr result (λ at. (taken : List ℕ) → AreTaken marks.old taken →
+        key_fault (length marks.old) taken least key place ≡ Some at) }
     ensures place { IfErr result (λ at. at ≡ place) }
 {
     let limit = marks.len() as u64;
@@ -48,9 +52,13 @@ fn check_key(marks: &mut [bool], key: u32, least: u64, place: usize) -> Result<u
 /// Looks at so many keys from a place on, and marks them.
 fn check_keys(marks: &mut [bool], body: &[u8], at: usize, count: u32) -> Result<(), usize>
     requires { at + 12 * count ≤ length body.now }
-    ensures none { (taken : List ℕ) → AreTaken marks.old taken → OnOk result (keys_fault (length marks.old) taken 0 count body.now at ≡ None) }
-    ensures marked { (taken : List ℕ) → AreTaken marks.old taken → OnOk result (AreTaken marks.new (keys_taken count body.now at taken)) }
-    ensures fault { (taken : List ℕ) → AreTaken marks.old taken → IfErr result (λ place. keys_fault (length marks.old) taken 0 count body.now at ≡ Some place) }
+    ensures none { (taken : List ℕ) → AreTaken marks.old taken →
+        OnOk result (keys_fault (length marks.old) taken 0 count body.now at ≡ None) }
+    ensures marked { (taken : List ℕ) → AreTaken marks.old taken →
+        OnOk result (AreTaken marks.new (keys_taken count body.now at taken)) }
+    ensures fault { (taken : List ℕ) → AreTaken marks.old taken →
+        IfErr result (λ place.
+        keys_fault (length marks.old) taken 0 count body.now at ≡ Some place) }
     ensures inside { IfErr result (λ place. place < length body.now) }
 {
     let mut least = 0;
@@ -64,9 +72,14 @@ fn check_keys(marks: &mut [bool], body: &[u8], at: usize, count: u32) -> Result<
 /// Looks at the row at a place, behind which so many sections stand, and tells where it ends.
 fn check_row(keys: &mut Keys, more: u16, body: &[u8], at: usize) -> Result<usize, usize>
     requires { at + (4 + 12 * keys.old.left) ≤ length body.now }
-    ensures none { (taken : List ℕ) → AreLeftOf keys.old.marks.items keys.old.left taken → IfOk result (λ _. row_fault (length keys.old.marks.items) taken more body.now at ≡ None) }
-    ensures left { (taken : List ℕ) → AreLeftOf keys.old.marks.items keys.old.left taken → IfOk result (λ _. AreLeftOf keys.new.marks.items keys.new.left (row_taken body.now at taken)) }
-    ensures fault { (taken : List ℕ) → AreLeftOf keys.old.marks.items keys.old.left taken → IfErr result (λ place. row_fault (length keys.old.marks.items) taken more body.now at ≡ Some place) }
+    ensures none { (taken : List ℕ) → AreLeftOf keys.old.marks.items keys.old.left taken →
+        IfOk result (λ _. row_fault (length keys.old.marks.items) taken more body.now at ≡ None) }
+    ensures left { (taken : List ℕ) → AreLeftOf keys.old.marks.items keys.old.left taken →
+        IfOk result (λ _. AreLeftOf keys.new.marks.items keys.new.left
+        (row_taken body.now at taken)) }
+    ensures fault { (taken : List ℕ) → AreLeftOf keys.old.marks.items keys.old.left taken →
+        IfErr result (λ place.
+        row_fault (length keys.old.marks.items) taken more body.now at ≡ Some place) }
     ensures end { IfOk result (λ end. end ≡ row_end body.now at) }
     ensures room { IfOk result (λ end. end + 12 * keys.new.left ≡ at + (4 + 12 * keys.old.left)) }
     ensures limit { length keys.new.marks.items ≡ length keys.old.marks.items }
@@ -82,8 +95,10 @@ fn check_row(keys: &mut Keys, more: u16, body: &[u8], at: usize) -> Result<usize
 /// Looks whether a row may have so many keys, where so many are left and so many sections follow.
 fn check_count(left: u32, more: u16, count: u32, place: usize) -> Result<(), usize>
     ensures fits { OnOk result (count ≤ left) }
-    ensures none { OnOk result (bad_outside (if more == 0 then left else 0) (left + 1) count place ≡ None) }
-    ensures fault { IfErr result (λ at. bad_outside (if more == 0 then left else 0) (left + 1) count place ≡ Some at) }
+    ensures none { OnOk result (bad_outside (if more == 0 then left
+        else 0) (left + 1) count place ≡ None) }
+    ensures fault { IfErr result (λ at.
+        bad_outside (if more == 0 then left else 0) (left + 1) count place ≡ Some at) }
     ensures place { IfErr result (λ at. at ≡ place) }
 {
     let least = if more == 0 { left } else { 0 };
@@ -95,7 +110,8 @@ fn check_count(left: u32, more: u16, count: u32, place: usize) -> Result<(), usi
     )
 }
 
-/// Looks at the sections of a body, which begin at a place and fill the rest of it. No key stands before them.
+/// Looks at the sections of a body, which begin at a place and fill the rest of it. No key stands
+/// before them.
 pub fn check_sections(
     header: &Header,
     vertices: &mut Keys,
@@ -107,9 +123,12 @@ pub fn check_sections(
     requires edges { AreLeftOf edges.old.marks.items edges.old.left [] }
     requires n { length vertices.old.marks.items ≡ header.now.n }
     requires m { length edges.old.marks.items ≡ header.now.m }
-    requires size { start + (8 * header.now.machines + 12 * header.now.n + 12 * header.now.m) ≡ length body.now }
-    ensures none { OnOk result (sections_fault header.now header.now.machines [] [] body.now start ≡ None) }
-    ensures fault { IfErr result (λ place. sections_fault header.now header.now.machines [] [] body.now start ≡ Some place) }
+    requires size { start + (8 * header.now.machines + 12 * header.now.n + 12 * header.now.m) ≡
+        length body.now }
+    ensures none { OnOk result
+        (sections_fault header.now header.now.machines [] [] body.now start ≡ None) }
+    ensures fault { IfErr result (λ place.
+        sections_fault header.now header.now.machines [] [] body.now start ≡ Some place) }
     ensures inside { IfErr result (λ place. place < length body.now) }
 {
     let mut at = start;

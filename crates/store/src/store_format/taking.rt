@@ -52,8 +52,8 @@ fn is_body(alloc: Global, header: &Header, number: u32, body: &[u8]) -> Result<b
     }
 }
 
-/// Whether the record of a snapshot is in the form of a store for this header, as that with this number. Want of memory is no
-/// answer to that.
+/// Whether the record of a snapshot is in the form of a store for this header, as that with this
+/// number. Want of memory is no answer to that.
 pub fn is_record(
     alloc: Global,
     header: &Header,
@@ -61,8 +61,10 @@ pub fn is_record(
     next: &Record,
 ) -> Result<bool, NoMemory>
     ensures fits { IfOk result (λ yes. IsTrue yes → RecordFits next.now) }
-    ensures form { IfOk result (λ yes. IsTrue yes → IsBody header.now number (body_bytes next.now)) }
-    ensures taken { IfOk result (λ yes. RecordFits next.now → IsBody header.now number (body_bytes next.now) → IsTrue yes) }
+    ensures form { IfOk result (λ yes. IsTrue yes →
+        IsBody header.now number (body_bytes next.now)) }
+    ensures taken { IfOk result (λ yes. RecordFits next.now →
+        IsBody header.now number (body_bytes next.now) → IsTrue yes) }
 {
     if !record_fits(next) {
         return Ok(false);

@@ -9,9 +9,10 @@ use gl_base::{NoMemory, Vertex};
 use std::alloc::Global;
 use std::marker::Model;
 
-/// Vertices in line, each in the line of its colour, first in, first out. There is room for all of them, so that no later call takes
-/// memory, and the first in the line of a colour is found without a look at another line. Vertices are numbered by their place in the
-/// machine's own order, from 0 on. Contracts see the colour of each, and which stand in line.
+/// Vertices in line, each in the line of its colour, first in, first out. There is room for all of
+/// them, so that no later call takes memory, and the first in the line of a colour is found without
+/// a look at another line. Vertices are numbered by their place in the machine's own order, from 0
+/// on. Contracts see the colour of each, and which stand in line.
 #[derive(Drop)]
 pub struct ColorLines {
     seats: Vec<Seat>,
@@ -34,11 +35,13 @@ impl Model for ColorLines {
 
     ghost view = { λ l. lines_of l.seats.items l.queues.items };
 
-    ghost invariant = { λ l. AreSeats l.seats.items (colour_rows l.rows.items) × AreQueues (colour_rows l.rows.items) l.queues.items };
+    ghost invariant = { λ l. AreSeats l.seats.items (colour_rows l.rows.items) ×
+        AreQueues (colour_rows l.rows.items) l.queues.items };
 }
 
 impl ColorLines {
-    /// Lines for vertices of these colours, in which nobody stands. It takes memory for each colour up to the greatest.
+    /// Lines for vertices of these colours, in which nobody stands. It takes memory for each colour
+    /// up to the greatest.
     pub fn new(alloc: Global, colours: &[u32]) -> Result<ColorLines, NoMemory>
         requires few { length colours.now < 4294967296 }
         ensures colours { IfOk result (λ l. l.colours ≡ colours.now) }
@@ -85,7 +88,8 @@ impl ColorLines {
     pub fn remove(&mut self, vertex: Vertex)
         requires { vertex.0 < length self.old.colours }
         ensures colours { self.new.colours ≡ self.old.colours }
-        ensures waits { (u : ℕ) → is_in_line self.new u ≡ (not (u == vertex.0) && is_in_line self.old u) }
+        ensures waits { (u : ℕ) →
+            is_in_line self.new u ≡ (not (u == vertex.0) && is_in_line self.old u) }
     {
         let seat = self.seats[vertex.0 as usize];
         self.queues[seat.colour as usize].remove(Vertex(seat.rank));
@@ -95,7 +99,8 @@ impl ColorLines {
     pub fn first(&self, colour: u32) -> Option<Vertex>
         ensures waits { IfSome result (λ v. is_in_line self.now v.0 ≡ true) }
         ensures colour { IfSome result (λ v. HasColour self.now v.0 colour) }
-        ensures none { IfNone result ((u : ℕ) → HasColour self.now u colour → is_in_line self.now u ≡ false) }
+        ensures none { IfNone result ((u : ℕ) → HasColour self.now u colour →
+            is_in_line self.now u ≡ false) }
     {
         let place = colour as usize;
         if place >= self.queues.len() {
@@ -137,7 +142,8 @@ fn empty_rows(alloc: Global, count: usize) -> Result<Vec<Vec<Vertex>>, NoMemory>
 fn join(rows: &mut Vec<Vec<Vertex>>, colour: u32, vertex: Vertex) -> Result<Seat, NoMemory>
     requires within { colour < length rows.old.items }
     requires few { length (colour_row (colour_rows rows.old.items) colour) ≤ vertex.0 }
-    ensures joined { IfOk result (λ seat. HasJoined (colour_rows rows.old.items) (colour_rows rows.new.items) seat vertex) }
+    ensures joined { IfOk result (λ seat.
+        HasJoined (colour_rows rows.old.items) (colour_rows rows.new.items) seat vertex) }
     ensures colour { IfOk result (λ seat. seat.colour ≡ colour) }
     ensures count { length rows.new.items ≡ length rows.old.items }
 {
@@ -151,7 +157,8 @@ fn join(rows: &mut Vec<Vec<Vertex>>, colour: u32, vertex: Vertex) -> Result<Seat
 fn empty_queues(alloc: Global, rows: &[Vec<Vertex>]) -> Result<Vec<VertexQueue>, NoMemory>
     requires few { (c : ℕ) → length (colour_row (colour_rows rows.now) c) < 4294967296 }
     ensures queues { IfOk result (λ queues. AreQueues (colour_rows rows.now) queues.items) }
-    ensures none { IfOk result (λ queues. (c r : ℕ) → slice_index_or (slice_index_or queues.items c []) r false ≡ false) }
+    ensures none { IfOk result (λ queues. (c r : ℕ) →
+        slice_index_or (slice_index_or queues.items c []) r false ≡ false) }
 {
     let mut queues = Vec::with_capacity(alloc, rows.len())?;
     for row in rows {

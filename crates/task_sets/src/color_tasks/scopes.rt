@@ -8,9 +8,9 @@ use gl_base::{MachineNo, NoMemory, ScopeId, Vertex};
 use std::alloc::Global;
 use std::marker::Model;
 
-/// The scopes of a machine that takes no locks: each is ready as soon as it is admitted, and stays in flight until its update is made. A
-/// scope is found by its serial. Contracts see the serial of the first scope of the step, and the centre of each scope of the step
-/// while that is in flight.
+/// The scopes of a machine that takes no locks: each is ready as soon as it is admitted, and stays
+/// in flight until its update is made. A scope is found by its serial. Contracts see the serial of
+/// the first scope of the step, and the centre of each scope of the step while that is in flight.
 #[derive(Drop)]
 pub struct StepScopes {
     home: MachineNo,
@@ -73,7 +73,8 @@ impl StepScopes {
 
     /// The scope that was admitted last is none of the step, as if it had not been admitted.
     pub fn take_back(&mut self)
-        ensures { (before : ScopesView) (v : Vertex) → self.old ≡ with_one before v → self.new ≡ before }
+        ensures { (before : ScopesView) (v : Vertex) →
+            self.old ≡ with_one before v → self.new ≡ before }
     {
         let _last = self.centres.pop();
         if self.low > self.centres.len() {
@@ -138,7 +139,8 @@ fn first_there(centres: &[Option<Vertex>], low: usize) -> usize
     ensures from { low ≤ result }
     ensures within { result ≤ length centres.now }
     ensures none { (k : ℕ) → low ≤ k → k < result → slice_index_or centres.now k None ≡ None }
-    ensures there { result < length centres.now → is_some (slice_index_or centres.now result None) ≡ true }
+    ensures there { result < length centres.now →
+        is_some (slice_index_or centres.now result None) ≡ true }
 {
     let mut place = low;
     while place < centres.len() && centres[place].is_none() {

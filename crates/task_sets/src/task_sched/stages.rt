@@ -8,10 +8,12 @@ use gl_base::{NoMemory, Vertex};
 use std::alloc::Global;
 use std::marker::Model;
 
-/// Tasks that wait. Those that were woken with a key up to the bar are near, and come first; those with a greater key are far;
-/// those that nothing has woken yet are fresh, and come last. In each stage they come first in, first out. Where none is near,
-/// the bar moves up into the keys of the far ones, and those up to it go over. A key below all that it moved into brings it down: the
-/// near ones go behind the far ones, and it moves no higher then than it was, as long as one of them is left.
+/// Tasks that wait. Those that were woken with a key up to the bar are near, and come first; those
+/// with a greater key are far; those that nothing has woken yet are fresh, and come last. In each
+/// stage they come first in, first out. Where none is near, the bar moves up into the keys of the
+/// far ones, and those up to it go over. A key below all that it moved into brings it down: the
+/// near ones go behind the far ones, and it moves no higher then than it was, as long as one of
+/// them is left.
 #[derive(Drop)]
 pub struct Stages {
     near: VertexQueue,
@@ -59,7 +61,8 @@ impl Stages {
 
     /// The task whose turn it is, and `None` where none waits.
     pub fn front(&self) -> Option<Vertex>
-        ensures { MatchOption result ((u : ℕ) → is_staged self.now u ≡ false) (λ v. is_staged self.now v.0 ≡ true) }
+        ensures { MatchOption result ((u : ℕ) →
+            is_staged self.now u ≡ false) (λ v. is_staged self.now v.0 ≡ true) }
     {
         match (self.near.front(), self.far.front()) {
             (Some(near), _) => Some(near),
@@ -72,7 +75,8 @@ impl Stages {
     pub fn add(&mut self, v: Vertex, key: u64)
         requires { v.0 < stage_count self.old }
         ensures count { stage_count self.new ≡ stage_count self.old }
-        ensures waits { (u : ℕ) → is_staged self.new u ≡ (if u == v.0 then true else is_staged self.old u) }
+        ensures waits { (u : ℕ) →
+            is_staged self.new u ≡ (if u == v.0 then true else is_staged self.old u) }
     {
         let place = v.0 as usize;
         let least = self.keys[place].min(key);
@@ -91,7 +95,8 @@ impl Stages {
     pub fn add_again(&mut self, v: Vertex)
         requires { v.0 < stage_count self.old }
         ensures count { stage_count self.new ≡ stage_count self.old }
-        ensures waits { (u : ℕ) → is_staged self.new u ≡ (if u == v.0 then true else is_staged self.old u) }
+        ensures waits { (u : ℕ) →
+            is_staged self.new u ≡ (if u == v.0 then true else is_staged self.old u) }
     {
         self.add(v, self.low);
     }
@@ -118,7 +123,8 @@ impl Stages {
     fn remove(&mut self, v: Vertex)
         requires { v.0 < stage_count self.old }
         ensures count { stage_count self.new ≡ stage_count self.old }
-        ensures waits { (u : ℕ) → is_staged self.new u ≡ (if u == v.0 then false else is_staged self.old u) }
+        ensures waits { (u : ℕ) →
+            is_staged self.new u ≡ (if u == v.0 then false else is_staged self.old u) }
     {
         self.near.remove(v);
         self.far.remove(v);
@@ -130,7 +136,8 @@ impl Stages {
     pub fn admit(&mut self, v: Vertex)
         requires { v.0 < stage_count self.old }
         ensures count { stage_count self.new ≡ stage_count self.old }
-        ensures waits { (u : ℕ) → is_staged self.new u ≡ (if u == v.0 then false else is_staged self.old u) }
+        ensures waits { (u : ℕ) →
+            is_staged self.new u ≡ (if u == v.0 then false else is_staged self.old u) }
     {
         self.remove(v);
         self.settle();
@@ -176,7 +183,8 @@ impl Stages {
     fn add_near(&mut self, v: Vertex)
         requires { v.0 < stage_count self.old }
         ensures count { stage_count self.new ≡ stage_count self.old }
-        ensures waits { (u : ℕ) → is_staged self.new u ≡ (if u == v.0 then true else is_staged self.old u) }
+        ensures waits { (u : ℕ) →
+            is_staged self.new u ≡ (if u == v.0 then true else is_staged self.old u) }
     {
         self.far.remove(v);
         self.fresh.remove(v);
@@ -187,7 +195,8 @@ impl Stages {
     fn add_far(&mut self, v: Vertex)
         requires { v.0 < stage_count self.old }
         ensures count { stage_count self.new ≡ stage_count self.old }
-        ensures waits { (u : ℕ) → is_staged self.new u ≡ (if u == v.0 then true else is_staged self.old u) }
+        ensures waits { (u : ℕ) →
+            is_staged self.new u ≡ (if u == v.0 then true else is_staged self.old u) }
     {
         self.fresh.remove(v);
         self.far.add(v);
@@ -203,7 +212,8 @@ impl Stages {
         self.far.add(v);
     }
 
-    /// The first far one goes over where its key is up to the bar, and else behind the other far ones.
+    /// The first far one goes over where its key is up to the bar, and else behind the other far
+    /// ones.
     fn move_far(&mut self, v: Vertex)
         requires { is_flagged self.old.far v.0 ≡ true }
         ensures count { stage_count self.new ≡ stage_count self.old }
@@ -218,7 +228,8 @@ impl Stages {
     }
 }
 
-/// The bar for far tasks with these keys: their middle, and no higher than the bar was before it came down, where a key is up to that.
+/// The bar for far tasks with these keys: their middle, and no higher than the bar was before it
+/// came down, where a key is up to that.
 fn bar_for(spread: Spread, before: Option<u64>) -> u64 {
     match before {
         Some(bar) if spread.least <= bar => spread.middle.min(bar),

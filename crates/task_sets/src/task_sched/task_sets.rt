@@ -18,9 +18,10 @@ pub struct Pick {
     pub snapshot: bool,
 }
 
-/// The tasks of a machine, its pending vertices, and which of both are admitted: have a scope in flight. Vertices are numbered by
-/// their place in the machine's own order, from 0 on. Contracts see flags for each vertex, the pending ones that wait in turn,
-/// and counts; nothing of the order in which tasks wait.
+/// The tasks of a machine, its pending vertices, and which of both are admitted: have a scope in
+/// flight. Vertices are numbered by their place in the machine's own order, from 0 on. Contracts
+/// see flags for each vertex, the pending ones that wait in turn, and counts; nothing of the order
+/// in which tasks wait.
 #[derive(Drop)]
 pub struct TaskSet {
     count: u32,
@@ -53,17 +54,20 @@ impl Model for TaskSet {
       window = t.window;
     } };
 
-    ghost invariant = { λ t. AreTasksKept t.count t.tasks.items t.pending t.admitted.items t.planned.items t.stages t.asked.among t.plans t.outside t.window };
+    ghost invariant = { λ t.
+        AreTasksKept t.count t.tasks.items t.pending t.admitted.items t.planned.items t.stages
+        t.asked.among t.plans t.outside t.window };
 }
 
 impl TaskSet {
-    /// Every vertex below `count` is a task, in ascending order; none is pending or admitted. At most `window` updates may be
-    /// outside the last acknowledged snapshot or admitted.
+    /// Every vertex below `count` is a task, in ascending order; none is pending or admitted. At
+    /// most `window` updates may be outside the last acknowledged snapshot or admitted.
     pub fn new(alloc: Global, count: u32, window: Option<u32>) -> Result<TaskSet, NoMemory>
         ensures count { IfOk result (λ t. length t.task ≡ count) }
         ensures admissions { IfOk result (λ t. length t.admitted ≡ count) }
         ensures tasks { IfOk result (λ t. (u : ℕ) → is_flagged t.task u ≡ nat_lt u count) }
-        ensures none { IfOk result (λ t. (u : ℕ) → (is_flagged t.pending u ≡ false) × (is_flagged t.admitted u ≡ false) × (is_flagged t.planned u ≡ false)) }
+        ensures none { IfOk result (λ t. (u : ℕ) → (is_flagged t.pending u ≡ false) ×
+            (is_flagged t.admitted u ≡ false) × (is_flagged t.planned u ≡ false)) }
         ensures asked { IfOk result (λ t. t.asked ≡ []) }
         ensures counts { IfOk result (λ t. (t.plans ≡ 0) × (t.outside ≡ 0) × (t.window ≡ window)) }
     {
@@ -81,7 +85,8 @@ impl TaskSet {
         })
     }
 
-    /// Makes v a task, woken with this key: of tasks those with small keys come first, as `docs/design/engine.md` says.
+    /// Makes v a task, woken with this key: of tasks those with small keys come first, as
+    /// `docs/design/engine.md` says.
     pub fn wake(&mut self, v: Vertex, key: u64)
         requires { v.0 < length self.old.task }
         ensures { self.new ≡ record self.old { task = slice_set self.old.task v.0 true } }
@@ -98,8 +103,13 @@ impl TaskSet {
         requires { v.0 < length self.old.task }
         ensures is_pending { is_flagged self.new.pending v.0 ≡ true }
         ensures pending { self.new.pending ≡ slice_set self.old.pending v.0 true }
-        ensures asked { self.new.asked ≡ (if is_flagged self.old.pending v.0 then self.old.asked else if is_flagged self.old.admitted v.0 then self.old.asked else self.old.asked ++ v ∷ []) }
-        ensures rest { self.new ≡ record self.old { pending = self.new.pending; asked = self.new.asked } }
+        ensures asked { self.new.asked ≡ (if is_flagged self.old.pending v.0 then self.old.asked
+            else if is_flagged self.old.admitted v.0 then self.old.asked
+            else self.old.asked ++ v ∷ []) }
+        ensures rest { self.new ≡ record self.old {
+          pending = self.new.pending;
+          asked = self.new.asked;
+        } }
     {
         let place = v.0 as usize;
         let was_pending = self.pending.has(v);
@@ -116,20 +126,29 @@ impl TaskSet {
     pub fn look(&self) -> Option<Pick>
         ensures pick { IsNextPick self.now result }
         ensures within { IfSome result (λ pick. pick.vertex.0 < length self.now.task) }
-        ensures asked { (u : ℕ) → list_any (λ v. v.0 == u) self.now.asked ≡ is_free self.now.pending self.now.admitted u }
+        ensures asked { (u : ℕ) →
+            list_any (λ v. v.0 == u) self.now.asked ≡ is_free self.now.pending self.now.admitted u }
         ensures window { IsUpTo self.now.window (self.now.outside + self.now.plans) }
     {
         pick_of(self.asked.first(), self.free_task())
     }
 
-    /// Admits the first in line of the pending vertices that are not admitted, which has been pending longest where `admit_asked` was not
-    /// called; else a task that is not admitted, where the window has room; and `None` exactly where there is no such vertex.
+    /// Admits the first in line of the pending vertices that are not admitted, which has been
+    /// pending longest where `admit_asked` was not called; else a task that is not admitted, where
+    /// the window has room; and `None` exactly where there is no such vertex.
     pub fn next(&mut self) -> Option<Pick>
         ensures pick { IsNextPick self.old result }
         ensures snapshot { (v : Vertex) → result ≡ Some (record { vertex = v; snapshot = true }) →
-            self.new ≡ record self.old { admitted = slice_set self.old.admitted v.0 true; asked = drop 1 self.old.asked } }
+            self.new ≡ record self.old {
+              admitted = slice_set self.old.admitted v.0 true;
+              asked = drop 1 self.old.asked;
+            } }
         ensures update { (v : Vertex) → result ≡ Some (record { vertex = v; snapshot = false }) →
-            self.new ≡ record self.old { admitted = slice_set self.old.admitted v.0 true; planned = slice_set self.old.planned v.0 true; plans = self.old.plans + 1 } }
+            self.new ≡ record self.old {
+              admitted = slice_set self.old.admitted v.0 true;
+              planned = slice_set self.old.planned v.0 true;
+              plans = self.old.plans + 1;
+            } }
         ensures none { result ≡ None → self.new ≡ self.old }
     {
         let pick = self.look()?;
@@ -141,7 +160,8 @@ impl TaskSet {
         Some(pick)
     }
 
-    /// The update of v was made: v is a task and admitted no more, and one update more is outside the last acknowledged snapshot.
+    /// The update of v was made: v is a task and admitted no more, and one update more is outside
+    /// the last acknowledged snapshot.
     pub fn ran(&mut self, v: Vertex)
         requires admitted { is_flagged self.old.admitted v.0 ≡ true }
         requires task { is_flagged self.old.task v.0 ≡ true }
@@ -164,11 +184,13 @@ impl TaskSet {
         self.outside += 1;
     }
 
-    /// The snapshot update of v was made: v is pending and admitted no more. A task stays one, and waits again.
+    /// The snapshot update of v was made: v is pending and admitted no more. A task stays one, and
+    /// waits again.
     pub fn marked(&mut self, v: Vertex)
         requires admitted { is_flagged self.old.admitted v.0 ≡ true }
         requires pending { is_flagged self.old.pending v.0 ≡ true }
-        ensures plans { self.new.plans + (if is_flagged self.old.planned v.0 then 1 else 0) ≡ self.old.plans }
+        ensures plans { self.new.plans + (if is_flagged self.old.planned v.0 then 1
+            else 0) ≡ self.old.plans }
         ensures rest { self.new ≡ record self.old {
           pending = slice_set self.old.pending v.0 false;
           admitted = slice_set self.old.admitted v.0 false;
@@ -203,11 +225,13 @@ impl TaskSet {
         self.outside
     }
 
-    /// How many vertices are admitted for an update. Each vertex has its flag for that, and none that is not admitted is planned.
+    /// How many vertices are admitted for an update. Each vertex has its flag for that, and none
+    /// that is not admitted is planned.
     pub fn plans(&self) -> u64
         ensures plans { result ≡ self.now.plans }
         ensures flags { length self.now.planned ≡ length self.now.task }
-        ensures free { (u : ℕ) → is_flagged self.now.admitted u ≡ false → is_flagged self.now.planned u ≡ false }
+        ensures free { (u : ℕ) → is_flagged self.now.admitted u ≡ false →
+            is_flagged self.now.planned u ≡ false }
     {
         self.plans
     }
@@ -240,9 +264,11 @@ impl TaskSet {
         flag_at(&self.admitted, v)
     }
 
-    /// Some task, admitted or not, and `None` exactly where there is none. It looks at each vertex where all tasks are admitted.
+    /// Some task, admitted or not, and `None` exactly where there is none. It looks at each vertex
+    /// where all tasks are admitted.
     pub fn some_task(&self) -> Option<Vertex>
-        ensures { MatchOption result ((u : ℕ) → is_flagged self.now.task u ≡ false) (λ v. is_flagged self.now.task v.0 ≡ true) }
+        ensures { MatchOption result ((u : ℕ) →
+            is_flagged self.now.task u ≡ false) (λ v. is_flagged self.now.task v.0 ≡ true) }
     {
         match self.stages.front() {
             Some(vertex) => Some(vertex),
@@ -250,10 +276,11 @@ impl TaskSet {
         }
     }
 
-    /// Some pending vertex, admitted or not, and `None` exactly where there is none. It looks at each vertex where all pending ones
-    /// are admitted.
+    /// Some pending vertex, admitted or not, and `None` exactly where there is none. It looks at
+    /// each vertex where all pending ones are admitted.
     pub fn some_pending(&self) -> Option<Vertex>
-        ensures { MatchOption result ((u : ℕ) → is_flagged self.now.pending u ≡ false) (λ v. is_flagged self.now.pending v.0 ≡ true) }
+        ensures { MatchOption result ((u : ℕ) →
+            is_flagged self.now.pending u ≡ false) (λ v. is_flagged self.now.pending v.0 ≡ true) }
     {
         match self.asked.first() {
             Some(vertex) => Some(vertex),
@@ -269,14 +296,17 @@ impl TaskSet {
         self.pending.has_some()
     }
 
-    /// As after `new`: every vertex is a task, none is pending or admitted, and no update is outside.
+    /// As after `new`: every vertex is a task, none is pending or admitted, and no update is
+    /// outside.
     pub fn reset(&mut self)
         ensures count { length self.new.task ≡ length self.old.task }
         ensures admissions { length self.new.admitted ≡ length self.old.task }
         ensures tasks { (u : ℕ) → is_flagged self.new.task u ≡ nat_lt u (length self.old.task) }
-        ensures none { (u : ℕ) → (is_flagged self.new.pending u ≡ false) × (is_flagged self.new.admitted u ≡ false) × (is_flagged self.new.planned u ≡ false) }
+        ensures none { (u : ℕ) → (is_flagged self.new.pending u ≡ false) ×
+            (is_flagged self.new.admitted u ≡ false) × (is_flagged self.new.planned u ≡ false) }
         ensures asked { self.new.asked ≡ [] }
-        ensures counts { (self.new.plans ≡ 0) × (self.new.outside ≡ 0) × (self.new.window ≡ self.old.window) }
+        ensures counts { (self.new.plans ≡ 0) × (self.new.outside ≡ 0) ×
+            (self.new.window ≡ self.old.window) }
     {
         set_all(&mut self.tasks, true);
         self.pending.clear();
@@ -293,33 +323,44 @@ impl TaskSet {
         requires within { v.0 < length self.old.task }
         requires asked { is_free self.old.pending self.old.admitted v.0 ≡ true }
         requires first { slice_get self.old.asked 0 ≡ Some v }
-        ensures { self.new ≡ record self.old { admitted = slice_set self.old.admitted v.0 true; asked = drop 1 self.old.asked } }
+        ensures { self.new ≡ record self.old {
+          admitted = slice_set self.old.admitted v.0 true;
+          asked = drop 1 self.old.asked;
+        } }
     {
         self.asked.pop();
         self.admitted[v.0 as usize] = true;
         self.stages.admit(v);
     }
 
-    /// Admits a pending vertex for its snapshot update, whether it is the one that `next` would pick or not. In which order the others
-    /// wait then is told nowhere.
+    /// Admits a pending vertex for its snapshot update, whether it is the one that `next` would
+    /// pick or not. In which order the others wait then is told nowhere.
     pub fn admit_asked(&mut self, v: Vertex)
         requires within { v.0 < length self.old.task }
         requires asked { is_free self.old.pending self.old.admitted v.0 ≡ true }
         ensures others { IsPermutation self.old.asked (v ∷ self.new.asked) }
-        ensures rest { self.new ≡ record self.old { admitted = slice_set self.old.admitted v.0 true; asked = self.new.asked } }
+        ensures rest { self.new ≡ record self.old {
+          admitted = slice_set self.old.admitted v.0 true;
+          asked = self.new.asked;
+        } }
     {
         self.asked.remove(v);
         self.admitted[v.0 as usize] = true;
         self.stages.admit(v);
     }
 
-    /// Admits a task for an update, where it is not pending and the window has room: as `next` does with the one that it picks.
+    /// Admits a task for an update, where it is not pending and the window has room: as `next` does
+    /// with the one that it picks.
     pub fn admit_task(&mut self, v: Vertex)
         requires within { v.0 < length self.old.task }
         requires task { is_free self.old.task self.old.admitted v.0 ≡ true }
         requires quiet { is_flagged self.old.pending v.0 ≡ false }
         requires room { is_open self.old ≡ true }
-        ensures { self.new ≡ record self.old { admitted = slice_set self.old.admitted v.0 true; planned = slice_set self.old.planned v.0 true; plans = self.old.plans + 1 } }
+        ensures { self.new ≡ record self.old {
+          admitted = slice_set self.old.admitted v.0 true;
+          planned = slice_set self.old.planned v.0 true;
+          plans = self.old.plans + 1;
+        } }
     {
         let place = v.0 as usize;
         self.admitted[place] = true;
@@ -377,7 +418,8 @@ fn one_where(flag: bool) -> u64
 /// Gives each vertex the same flag.
 fn set_all(flags: &mut Vec<bool>, flag: bool)
     ensures count { length flags.new.items ≡ length flags.old.items }
-    ensures each { (u : ℕ) → is_flagged flags.new.items u ≡ (nat_lt u (length flags.old.items) && flag) }
+    ensures each { (u : ℕ) →
+        is_flagged flags.new.items u ≡ (nat_lt u (length flags.old.items) && flag) }
 {
     for place in 0..flags.len() {
         flags[place] = flag;
@@ -397,7 +439,8 @@ fn flag_at(flags: &[bool], v: Vertex) -> bool
 /// The first vertex that has its flag.
 fn first_flag(flags: &[bool], count: u32) -> Option<Vertex>
     requires { length flags.now ≡ count }
-    ensures { MatchOption result ((u : ℕ) → is_flagged flags.now u ≡ false) (λ v. is_flagged flags.now v.0 ≡ true) }
+    ensures { MatchOption result ((u : ℕ) →
+        is_flagged flags.now u ≡ false) (λ v. is_flagged flags.now v.0 ≡ true) }
 {
     for v in 0..count {
         if flags[v as usize] {

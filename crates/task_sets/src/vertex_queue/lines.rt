@@ -9,13 +9,14 @@ use std::alloc::Global;
 use std::collections::VecDeque;
 use std::marker::Model;
 
-/// Vertices in line, each once, in the order in which they came as long as none leaves out of turn. It has room for all of them, so
-/// that no later call takes memory.
+/// Vertices in line, each once, in the order in which they came as long as none leaves out of turn.
+/// It has room for all of them, so that no later call takes memory.
 #[derive(Drop)]
 pub struct VertexLine {
     among: Vec<bool>,
     line: VecDeque<Vertex>,
-    /// The turn of each vertex that stands in line. Turns are numbered in the order of the line, and the numbers wrap.
+    /// The turn of each vertex that stands in line. Turns are numbered in the order of the line,
+    /// and the numbers wrap.
     turns: Vec<u32>,
     /// The turn of the first in line.
     first_turn: u32,
@@ -29,7 +30,8 @@ impl Model for VertexLine {
 
     ghost view = { λ l. record { among = l.among.items; line = l.line.items } };
 
-    ghost invariant = { λ l. IsLine l.among.items l.line.items l.line.cap l.turns.items l.first_turn };
+    ghost invariant = { λ l.
+        IsLine l.among.items l.line.items l.line.cap l.turns.items l.first_turn };
 }
 
 impl VertexLine {
@@ -53,7 +55,8 @@ impl VertexLine {
         ensures first { result ≡ slice_get self.now.line 0 }
         ensures among { IfSome result (λ v. is_flagged self.now.among v.0 ≡ true) }
         ensures none { result ≡ None → (u : ℕ) → is_flagged self.now.among u ≡ false }
-        ensures each { (u : ℕ) → list_any (λ v. v.0 == u) self.now.line ≡ is_flagged self.now.among u }
+        ensures each { (u : ℕ) →
+            list_any (λ v. v.0 == u) self.now.line ≡ is_flagged self.now.among u }
     {
         self.line.front().copied()
     }
@@ -62,7 +65,10 @@ impl VertexLine {
     pub fn push(&mut self, vertex: Vertex)
         requires within { vertex.0 < length self.old.among }
         requires away { is_flagged self.old.among vertex.0 ≡ false }
-        ensures { self.new ≡ record { among = slice_set self.old.among vertex.0 true; line = self.old.line ++ vertex ∷ [] } }
+        ensures { self.new ≡ record {
+          among = slice_set self.old.among vertex.0 true;
+          line = self.old.line ++ vertex ∷ [];
+        } }
     {
         let place = vertex.0 as usize;
         self.among[place] = true;
@@ -81,8 +87,8 @@ impl VertexLine {
         Some(first)
     }
 
-    /// The vertex, which stands in line, leaves it, whether its turn has come or not. In which order the others stand then is told
-    /// nowhere.
+    /// The vertex, which stands in line, leaves it, whether its turn has come or not. In which
+    /// order the others stand then is told nowhere.
     pub fn remove(&mut self, vertex: Vertex)
         requires { is_flagged self.old.among vertex.0 ≡ true }
         ensures among { self.new.among ≡ slice_set self.old.among vertex.0 false }

@@ -9,9 +9,9 @@ use std::alloc::Global;
 use std::collections::VecDeque;
 use std::marker::Model;
 
-/// A set of vertices, which come first in, first out. It has room for all of them, so that no later call takes memory. One that
-/// is a member no more may stay in the queue until it comes to the front, and keeps its place if it becomes a member again.
-/// Contracts see a flag for each vertex.
+/// A set of vertices, which come first in, first out. It has room for all of them, so that no later
+/// call takes memory. One that is a member no more may stay in the queue until it comes to the
+/// front, and keeps its place if it becomes a member again. Contracts see a flag for each vertex.
 #[derive(Drop)]
 pub struct VertexQueue {
     standings: Vec<Standing>,
@@ -37,7 +37,9 @@ impl Model for VertexQueue {
 
     ghost view = { λ q. map is_member q.standings.items };
 
-    ghost invariant = { λ q. IsVertexQueue (map is_member q.standings.items) (map stands_in q.standings.items) q.queue.items q.queue.cap };
+    ghost invariant = { λ q.
+        IsVertexQueue (map is_member q.standings.items) (map stands_in q.standings.items)
+        q.queue.items q.queue.cap };
 }
 
 impl VertexQueue {
@@ -53,7 +55,8 @@ impl VertexQueue {
         })
     }
 
-    /// Makes each vertex a member. Those that are none yet wait behind the others, ascending. `count` is that of `none`.
+    /// Makes each vertex a member. Those that are none yet wait behind the others, ascending.
+    /// `count` is that of `none`.
     pub fn add_all(&mut self, count: u32)
         requires { count ≡ length self.old }
         ensures count { length self.new ≡ length self.old }
@@ -87,7 +90,8 @@ impl VertexQueue {
 
     /// The first member, and `None` where there is none.
     pub fn front(&self) -> Option<Vertex>
-        ensures { MatchOption result ((u : ℕ) → is_flagged self.now u ≡ false) (λ v. is_flagged self.now v.0 ≡ true) }
+        ensures { MatchOption result ((u : ℕ) →
+            is_flagged self.now u ≡ false) (λ v. is_flagged self.now v.0 ≡ true) }
     {
         self.queue.front().copied()
     }
@@ -157,8 +161,8 @@ impl VertexQueue {
 pub struct Spread {
     /// The least of them.
     pub least: u64,
-    /// The greater of their mean and of the middle between the least and the greatest: some are up to it, and the greatest is above
-    /// it, where they differ.
+    /// The greater of their mean and of the middle between the least and the greatest: some are up
+    /// to it, and the greatest is above it, where they differ.
     pub middle: u64,
 }
 
@@ -209,9 +213,11 @@ impl Standing {
 
 /// Takes vertices that are no members any more off the front of the queue.
 fn drop_done(standings: &mut [Standing], queue: &mut VecDeque<Vertex>)
-    requires { KeepsQueue (map is_member standings.old) (map stands_in standings.old) queue.old.items }
+    requires { KeepsQueue (map is_member standings.old)
+        (map stands_in standings.old) queue.old.items }
     ensures members { map is_member standings.new ≡ map is_member standings.old }
-    ensures queue { KeepsQueue (map is_member standings.new) (map stands_in standings.new) queue.new.items }
+    ensures queue { KeepsQueue (map is_member standings.new)
+        (map stands_in standings.new) queue.new.items }
     ensures first { IsMemberFirst (map is_member standings.new) queue.new.items }
     ensures room { deque_capacity queue.new ≡ deque_capacity queue.old }
 {

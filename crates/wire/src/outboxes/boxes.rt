@@ -20,7 +20,10 @@ impl Model for Outbox {
 
     ghost Value = { OutboxView };
 
-    ghost view = { λ o. record { messages = map message_view o.queue.items; room = o.queue.cap - length o.queue.items } };
+    ghost view = { λ o. record {
+      messages = map message_view o.queue.items;
+      room = o.queue.cap - length o.queue.items;
+    } };
 }
 
 impl Outbox {

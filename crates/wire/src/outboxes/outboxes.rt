@@ -9,8 +9,8 @@ use gl_base::{MachineNo, NoMemory, Peer};
 use std::alloc::Global;
 use std::marker::Model;
 
-/// What waits to be sent: to each machine of the cluster, and to the coordinator. Contracts see the messages that wait, as what
-/// they hold, and for how many more there is room.
+/// What waits to be sent: to each machine of the cluster, and to the coordinator. Contracts see the
+/// messages that wait, as what they hold, and for how many more there is room.
 #[derive(Drop)]
 pub struct Outboxes {
     machines: Vec<Outbox>,
@@ -49,7 +49,8 @@ impl Outboxes {
         requires { IsPeerOf self.old to }
         ensures room { OnOk result (0 < (outbox_to self.new to).room) }
         ensures kept { (outbox_to self.old to).room ≤ (outbox_to self.new to).room }
-        ensures rest { self.new ≡ with_outbox self.old to (record (outbox_to self.old to) { room = (outbox_to self.new to).room }) }
+        ensures rest { self.new ≡ with_outbox self.old to
+            (record (outbox_to self.old to) { room = (outbox_to self.new to).room }) }
     {
         match to {
             Peer::Machine(machine) => self.machines[machine.0 as usize].reserve(),
@@ -61,7 +62,8 @@ impl Outboxes {
     pub fn put(&mut self, to: Peer, message: Message)
         requires peer { IsPeerOf self.old to }
         requires room { 0 < (outbox_to self.old to).room }
-        ensures { self.new ≡ with_outbox self.old to (with_message (message_view message) (outbox_to self.old to)) }
+        ensures { self.new ≡ with_outbox self.old to
+            (with_message (message_view message) (outbox_to self.old to)) }
     {
         match to {
             Peer::Machine(machine) => self.machines[machine.0 as usize].put(message),
@@ -72,7 +74,8 @@ impl Outboxes {
     /// Takes the first message that waits for a peer; `None` exactly where none waits.
     pub fn take(&mut self, to: Peer) -> Option<Message>
         ensures first { option_map message_view result ≡ slice_get (waiting_for self.old to) 0 }
-        ensures behind { self.new ≡ with_outbox self.old to (without_first (outbox_to self.old to)) }
+        ensures behind { self.new ≡ with_outbox self.old to
+            (without_first (outbox_to self.old to)) }
     {
         match to {
             Peer::Machine(machine) => {
@@ -100,8 +103,8 @@ impl Outboxes {
         }
     }
 
-    /// The first machine from this one on for which a message waits, and else the coordinator where one waits for it. It looks at
-    /// each machine.
+    /// The first machine from this one on for which a message waits, and else the coordinator where
+    /// one waits for it. It looks at each machine.
     pub fn next_waiting(&self, from: MachineNo) -> Option<Peer>
         ensures { IsNextWaiting self.now from.0 result }
     {

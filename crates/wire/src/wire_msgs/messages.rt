@@ -8,7 +8,8 @@ use std::alloc::Global;
 /// What one peer tells another.
 #[derive(Drop)]
 pub enum Message {
-    /// The scope of this centre asks for its locks here, and then at the machines `rest` in turn. To a machine.
+    /// The scope of this centre asks for its locks here, and then at the machines `rest` in turn.
+    /// To a machine.
     Ask {
         scope: ScopeId,
         centre: Vertex,
@@ -43,15 +44,17 @@ pub enum Message {
     Step {
         colour: u32,
     },
-    /// A machine wants a snapshot after the last one that it knows to be stored. To the coordinator.
+    /// A machine wants a snapshot after the last one that it knows to be stored. To the
+    /// coordinator.
     Want {
         acknowledged: u32,
     },
 }
 
-/// What an update tells another machine of its scope: the centre's datum where it changed, the new numbers of the edges between
-/// the centre and that machine's vertices that changed, and which of that machine's vertices wake and become pending. `number`
-/// is that of the snapshot where some become pending, else 0.
+/// What an update tells another machine of its scope: the centre's datum where it changed, the new
+/// numbers of the edges between the centre and that machine's vertices that changed, and which of
+/// that machine's vertices wake and become pending. `number` is that of the snapshot where some
+/// become pending, else 0.
 #[derive(Drop)]
 pub struct Done {
     pub scope: ScopeId,
@@ -63,7 +66,8 @@ pub struct Done {
     pub number: u32,
 }
 
-/// What a machine saved for a snapshot, and the entries of its vertices that the snapshot has and the one before has not.
+/// What a machine saved for a snapshot, and the entries of its vertices that the snapshot has and
+/// the one before has not.
 #[derive(Drop)]
 pub struct Section {
     pub number: u32,
