@@ -1,0 +1,11 @@
+pub mod Closing
+pub mod Deeds
+pub mod Goings
+pub mod HearingOn
+pub mod Holding
+pub mod Messages
+pub mod Places
+pub mod Putting
+pub mod Ruling
+pub mod Seating
+pub mod Singles

@@ -1,0 +1,7 @@
+use Rattle.std.proofs.Common.{Some}
+use Rattle.wire_board.proofs.Deeds.{owing_at_once}
+use Rattle.wire_board.specs.Led.{Node}
+use Rattle.wire_board.proofs.boards.Board.draw_at_once.Given as goal
+
+abbrev pub ghosts-draw : goal.ghosts-draw
+ghosts-draw g a = record { part = Some (Node (owing_at_once a._from.now a._owed.now a.ticket)) }

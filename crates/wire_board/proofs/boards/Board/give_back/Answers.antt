@@ -1,0 +1,30 @@
+use Rattle.std.proofs.Common.{[], ap, refl, ◌∙◌}
+use Rattle.link_tables.proofs.Standing.{holds_another}
+use Rattle.wire_board.proofs.Places.{sits_given}
+use Rattle.wire_board.specs.Seats.{Node, at_rest}
+use Rattle.wire_board.proofs.boards.Board.give_back.Goals as goal
+
+pub give-requires-clause-holds : goal.give-requires-clause-holds
+give-requires-clause-holds g c =
+    let h = c.requires.holds in (
+      Node (at_rest c.args.member.now),
+      Node (at_rest h.0),
+      [],
+      h.1,
+      c.args.queue,
+      refl,
+      holds_another c.args.place.now.seat.me c.exchange.new.place.seat.me (Node (at_rest h.0)) [] c.args.link h.1 h.2 c.args.queue h.3 c.exchange.ensures.now,
+      c.word_of-word.ensures.none,
+      h.4,
+      h.5,
+    )
+
+pub returns-clause-sits : goal.returns-clause-sits
+returns-clause-sits g c =
+    let h = c.requires.holds in
+    sits_given g.M.SavingMachine.stands c.args.member.now c.exchange.new.place.seat.me c.give.new.place.seat.me (Node (at_rest h.0)) c.args.link h.1 c.args.queue
+    (holds_another c.args.place.now.seat.me c.exchange.new.place.seat.me (Node (at_rest h.0)) [] c.args.link h.1 h.2 c.args.queue h.3 c.exchange.ensures.now)
+    (c.give.ensures.given (Node (at_rest c.args.member.now)) refl)
+
+pub returns-clause-found : goal.returns-clause-found
+returns-clause-found g c = ap (λ me. me.0.found) (c.give.ensures.given (Node (at_rest c.args.member.now)) refl) ∙ ap (λ me. me.0.found) c.exchange.ensures.now

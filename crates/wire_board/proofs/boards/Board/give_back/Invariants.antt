@@ -1,0 +1,7 @@
+use Rattle.std.proofs.Common.{Some}
+use Rattle.wire_board.specs.Led.{Node}
+use Rattle.wire_board.specs.Standings.{at_rest}
+use Rattle.wire_board.proofs.boards.Board.give_back.Given as goal
+
+abbrev pub ghosts-give : goal.ghosts-give
+ghosts-give g a = record { part = Some (Node (at_rest a._from.now)) }

@@ -1,0 +1,45 @@
+use Rattle.std.proofs.Common.{arith, refl, subst, suc, sym, ◌-◌, ◌≡◌, ℕ}
+use Rattle.link_tables.specs.Rule.{CarriesLink}
+use Rattle.wire_board.proofs.Places.{holds_now, queue_is}
+use Rattle.wire_board.proofs.Ruling.{carries_call}
+use Rattle.wire_board.specs.Hearing.{HasHeardFirst, MayHearFirst}
+use Rattle.wire_board.specs.Led.{HasBeenLed, LinkView, number_of}
+use Rattle.wire_board.specs.Openings.{standing_parts}
+use Rattle.wire_board.specs.Seats.{Member, Node, at_rest}
+use Rattle.wire_board.proofs.boards.Board.hear_call.Goals as goal
+
+pub returns-in-Bare-clause-sits : goal.returns-in-Bare-clause-sits
+returns-in-Bare-clause-sits g c = let is = c.in-Bare.is in c.take_laden.ensures.missed (λ e. cc)
+
+pub returns-in-Out-clause-sits : goal.returns-in-Out-clause-sits
+returns-in-Out-clause-sits g c = let is = c.in-Out.is in c.take_laden.ensures.missed (λ e. cc)
+
+pub hear_first-heard-requires : goal.hear_first-heard-requires
+hear_first-heard-requires g c =
+    let stands = g.M.SavingMachine.stands in
+    let member = c.args.member.now in
+    let t = c.take_laden.ensures.taken c.in-Laden.is in
+    let is : t.queue ≡ c.exchange-queue.result = queue_is stands member c.take_laden.new.place.seat.me c.exchange-queue.new.place.seat.me c.link-link.result _ c.exchange-queue.result t c.exchange-queue.ensures.now c.exchange-queue.ensures.was in
+    let inside = c.requires.inside in
+    let last : suc (member.peers - 1) ≡ member.peers = omega arith in
+    subst (λ (l : LinkView). MayHearFirst stands member.machine l.messages) is (t.learns.1 (member.peers - 1) last c.link-link.ensures.number)
+
+pub give_back-requires-clause-holds : goal.give_back-requires-clause-holds
+give_back-requires-clause-holds g c =
+    let stands = g.M.SavingMachine.stands in
+    let about = c.args.self.now.table.table.shared.key.about in
+    let member = c.args.member.now in
+    let t = c.take_laden.ensures.taken c.in-Laden.is in
+    let is : t.queue ≡ c.exchange-queue.result = queue_is stands member c.take_laden.new.place.seat.me c.exchange-queue.new.place.seat.me c.link-link.result _ c.exchange-queue.result t c.exchange-queue.ensures.now c.exchange-queue.ensures.was in
+    let after : Member g.row.M.Denot = record { number = member.number; peers = member.peers; machine = c.hear_first-heard.new.machine } in
+    let inside = c.requires.inside in
+    let last : suc (member.peers - 1) ≡ member.peers = omega arith in (
+      member,
+      t.queue,
+      _,
+      holds_now stands member c.take_laden.new.place.seat.me c.exchange-queue.new.place.seat.me c.link-link.result _ c.exchange-queue.result t c.exchange-queue.ensures.now c.exchange-queue.ensures.was,
+      refl,
+      subst (λ (i : ℕ). CarriesLink number_of (HasBeenLed stands about.failures.value.items about.done.value.items (standing_parts about.machines about.opening.value) about.machines) i (Node (at_rest member)) t.queue (Node (at_rest after)) c.hear_first-heard.new.queue) (sym c.link-link.ensures.number)
+          (carries_call stands about.failures.value.items about.done.value.items (standing_parts about.machines about.opening.value) about.machines member after refl refl t.queue c.hear_first-heard.new.queue (member.peers - 1) last
+          (subst (λ (l : LinkView). HasHeardFirst stands member.machine l.messages c.hear_first-heard.new.queue.messages after.machine) (sym is) c.hear_first-heard.ensures) c.requires.free),
+    )

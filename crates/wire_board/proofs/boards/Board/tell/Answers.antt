@@ -1,0 +1,39 @@
+use Rattle.std.proofs.Common.{ap, refl, subst, sym, ◌++◌, ◌∙◌, ◌≡◌, ℕ}
+use Rattle.std.specs.Prelude.{IsTrue, ◌↔◌}
+use Rattle.cluster_laws.specs.cluster_core.Actions.{HasFirst}
+use Rattle.link_tables.specs.Rule.{CarriesLink}
+use Rattle.wire_board.proofs.Places.{holds_now, none_first, queue_is}
+use Rattle.wire_board.proofs.Ruling.{carries_told}
+use Rattle.wire_board.specs.Led.{HasBeenLed, LinkView, number_of}
+use Rattle.wire_board.specs.Openings.{standing_parts}
+use Rattle.wire_board.specs.Seats.{Member, Node, at_rest}
+use Rattle.wire_board.proofs.boards.Board.tell.Goals as goal
+
+pub returns-then-not-waits-clause-nothing : goal.returns-then-not-waits-clause-nothing
+returns-then-not-waits-clause-nothing g c =
+    λ same. (
+      refl,
+      λ st a m setting here. none_first (m.part.out c.args.to.0) (subst (λ b. IsTrue b ↔ HasFirst (m.part.out c.args.to.0)) c.if-not-waits.true (c.waits.ensures st a m setting here)),
+    )
+
+pub give_back-requires-clause-holds : goal.give_back-requires-clause-holds
+give_back-requires-clause-holds g c =
+    let stands = g.M.SavingMachine.stands in
+    let about = c.args.self.now.table.table.shared.key.about in
+    let member = c.args.member.now in
+    let t = c.take_home.ensures.taken c.if-not-take_home.false in
+    let is : t.queue ≡ c.exchange-queue.result = queue_is stands member c.take_home.new.place.seat.me c.exchange-queue.new.place.seat.me c.link-link.result _ c.exchange-queue.result t c.exchange-queue.ensures.now c.exchange-queue.ensures.was in
+    let told = c.tell_all-told.ensures in
+    let after : Member g.row.M.Denot = record { number = member.number; peers = member.peers; machine = c.tell_all-told.new.machine } in (
+      member,
+      t.queue,
+      _,
+      holds_now stands member c.take_home.new.place.seat.me c.exchange-queue.new.place.seat.me c.link-link.result _ c.exchange-queue.result t c.exchange-queue.ensures.now c.exchange-queue.ensures.was,
+      refl,
+      subst (λ (i : ℕ). CarriesLink number_of (HasBeenLed stands about.failures.value.items about.done.value.items (standing_parts about.machines about.opening.value) about.machines) i (Node (at_rest member)) t.queue (Node (at_rest after)) c.tell_all-told.new.queue) (sym c.link-link.ensures.number)
+          (carries_told stands about.failures.value.items about.done.value.items (standing_parts about.machines about.opening.value) about.machines member after refl refl t.queue c.tell_all-told.new.queue c.args.to.0 c.requires.to.0 told.0
+          (told.1 ∙ ap (λ (l : LinkView). l.messages ++ told.0) (sym is)) told.2),
+    )
+
+pub returns-then-not-take_home-clause-sits : goal.returns-then-not-take_home-clause-sits
+returns-then-not-take_home-clause-sits g c = c.take_home.ensures.missed c.if-not-take_home.true

@@ -1,0 +1,17 @@
+//! A board: the machines of a cluster on threads of their own, with links and tickets that they share.
+#![tactic(auto)]
+
+mod boards;
+mod calls;
+mod drawing;
+mod eager;
+mod hearing;
+mod passing;
+mod standings;
+mod telling;
+
+pub use boards::{About, Board, BoardRule};
+pub use drawing::Drawn;
+pub use eager::EagerMachine;
+pub use passing::{Heard, Told};
+pub use standings::{Leading, Member, Owed, Seated, Standing};
