@@ -80,7 +80,7 @@ module _ {M : Type 0} (stands : Setting → ℕ → Machine → M → Type 0) (f
       (last_or front lead a z at)
 
   -- the parts stand for the clusters for which they stood
-  stood_so : (st : Setting) (c : Cluster) → IsSavingClusterOf stands st p c → IsSavingClusterOf (StandsOwing stands) st (standing_parts n p) c
+  pub stood_so : (st : Setting) (c : Cluster) → IsSavingClusterOf stands st p c → IsSavingClusterOf (StandsOwing stands) st (standing_parts n p) c
   stood_so st c of = record {
     many = length_numbered (suc n) 0 p.machines.items ∙ of.many;
     small = of.small;

@@ -9,3 +9,6 @@ pub mod Putting
 pub mod Ruling
 pub mod Seating
 pub mod Singles
+pub mod Leads
+pub mod LeadPlaces
+pub mod Gathering

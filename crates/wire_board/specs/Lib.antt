@@ -5,3 +5,4 @@ pub mod Freeing
 pub mod Led
 pub mod Openings
 pub mod Seats
+pub mod Closings

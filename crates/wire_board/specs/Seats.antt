@@ -4,8 +4,11 @@ pub use Rattle.wire_board.specs.Led.{Lead, Leading, LinkView, Node, Seated, Stan
 use Rattle.link_tables.specs.Seats.{HoldsLink}
 use Rattle.wire_board.specs.Led.{Learns}
 pub use Rattle.wire_board.specs.Standings.{Machine, Member, Setting, at_rest}
-use Rattle.std.specs.Prelude.{List, [], ℕ, ◌≡◌}
-use Rattle.coordinator.specs.coord_core.Calls.{StaysCoordinator}
+use Rattle.std.specs.Prelude.{List, Some, [], ℕ, ◌++◌, ◌∷◌, ◌≡◌, ◌⊎◌}
+use Rattle.coordinator.specs.coord_core.Calls.{HasHandedOver, HasTakenReport, StaysCoordinator}
+use Rattle.coordinator.specs.coord_core.Coordinators.{CoordinatorView}
+use Rattle.coordinator.specs.machine_api.Promises.{MessageView, message_view}
+use Rattle.wire.specs.declared.wire_msgs.messages.Message.{Message}
 use Rattle.wire_board.specs.Standings.{HasComeTo}
 
 -- The seat has this machine as it was at its last step, and no link; and the machine has come from there to what it is now.
@@ -28,3 +31,23 @@ pub record Leads {M : Type 0} (lead : Leading) (others : List (Seated M)) (me : 
   pub rests : Rests me (Lead was) others
   pub number : lead.number ≡ was.number
   pub stays : StaysCoordinator was.coordinator lead.coordinator
+
+-- The seat has this coordinator first, and the link i as it was taken.
+pub record HasTakenLead {M : Type 0} (stands : Setting → ℕ → Machine → M → Type 0) (lead : Leading) (others : List (Seated M)) (i : ℕ) (me : Sat (Seated M) LinkView) : Type 0 where
+  pub queue : LinkView
+  pub holds : HoldsLink me (Lead lead) others i queue queue
+  pub learns : Learns stands (Lead lead) i queue
+
+-- ---- what the coordinator has told and heard on a link
+
+-- It has told machine a its first call; or nothing has changed.
+abbrev pub HasToldCall : CoordinatorView → ℕ → List MessageView → List MessageView → CoordinatorView → Type 0
+HasToldCall c a old new d =
+    ((message : Message) × (new ≡ old ++ message_view message ∷ []) × HasHandedOver c d a (Some message))
+    ⊎ ((new ≡ old) × StaysCoordinator c d)
+
+-- It has taken the first report of machine a; or nothing has changed.
+abbrev pub HasHeardReport : CoordinatorView → ℕ → List MessageView → List MessageView → CoordinatorView → Type 0
+HasHeardReport c a old new d =
+    ((message : Message) × (old ≡ message_view message ∷ new) × HasTakenReport c d a (message_view message))
+    ⊎ ((new ≡ old) × StaysCoordinator c d)

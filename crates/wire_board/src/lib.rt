@@ -6,8 +6,11 @@ mod calls;
 mod drawing;
 mod eager;
 mod hearing;
+mod leading;
 mod passing;
+mod reports;
 mod standings;
+mod talking;
 mod telling;
 
 pub use boards::{About, Board, BoardRule};

@@ -1,0 +1,28 @@
+use Rattle.std.proofs.Common.{refl}
+use Rattle.cluster_laws.specs.cluster_model.Events as law
+use Rattle.cluster_laws.specs.cluster_model.Leading.{acknowledges}
+use Rattle.wire_board.proofs.LeadPlaces.{leads_changed, leads_still}
+use Rattle.wire_board.proofs.Leads.{carries_led}
+use Rattle.wire_board.specs.Led.{Lead, Leading}
+use Rattle.wire_board.specs.Openings.{standing_parts}
+use Rattle.wire_board.proofs.boards.Board.acknowledge.Goals as goal
+
+pub settle-requires-clause-rests : goal.settle-requires-clause-rests
+settle-requires-clause-rests g c =
+    let s = c.requires.sits.1 in
+    let about = c.args.self.now.table.table.shared.key.about in
+    let lead : Leading = record { number = c.args.lead.now.number; coordinator = c.recorded.new.self } in (
+      Lead lead,
+      Lead s.was,
+      c.requires.sits.0,
+      refl,
+      s.rests,
+      s.number,
+      carries_led g.M.SavingMachine.stands about.failures.value.items about.done.value.items (standing_parts about.machines about.opening.value) about.machines s.was lead s.number law.Record (λ base is. cc) (λ st d. tt)
+          (acknowledges) (λ st d. refl) (λ st d of. c.requires.due st d (s.stays st d.coordinator of)) (λ st k of. c.recorded.ensures st k (s.stays st k of)),
+    )
+
+pub returns-clause-sits : goal.returns-clause-sits
+returns-clause-sits g c =
+    let lead : Leading = record { number = c.args.lead.now.number; coordinator = c.recorded.new.self } in
+    λ others s. leads_changed lead others c.args.place.now.seat.me c.settle.new.place.seat.me (Lead s.was) _ s.rests (c.settle.ensures.settled (Lead lead) refl)

@@ -1,0 +1,78 @@
+use Rattle.std.proofs.Common.{List, add-one, ap, refl, subst, suc, sym, ⊎_elim, ◌+◌, ◌++◌, ◌∙◌, ◌∷◌, ◌≡◌, ℕ, [], Some}
+use Rattle.coordinator.specs.coord_core.Calls.{HasHandedOver, HasTakenReport, StaysCoordinator}
+use Rattle.coordinator.specs.machine_api.Promises.{message_view}
+use Rattle.link_tables.specs.Rule.{CarriesLink}
+use Rattle.wire.specs.declared.wire_msgs.messages.Message.{Message}
+use Rattle.wire_board.proofs.LeadPlaces.{lead_holds_now, lead_queue_is}
+use Rattle.wire_board.proofs.Leads.{carries_no_report, carries_report_heard}
+use Rattle.wire_board.specs.Led.{HasBeenLed, Lead, Leading, LinkView, link_no, number_of}
+use Rattle.wire_board.specs.Openings.{standing_parts}
+use Rattle.wire_board.proofs.boards.Board.hear_report.Goals as goal
+use Rattle.link_tables.specs.declared.words.LinkWord.TheVariants.{Laden}
+
+pub returns-in-Bare-clause-sits : goal.returns-in-Bare-clause-sits
+returns-in-Bare-clause-sits g c = let is = c.in-Bare.is in λ others s. c.take_lead.ensures.missed (λ e. cc) others s
+
+pub returns-in-Out-clause-sits : goal.returns-in-Out-clause-sits
+returns-in-Out-clause-sits g c = let is = c.in-Out.is in λ others s. c.take_lead.ensures.missed (λ e. cc) others s
+
+pub exchange-queue-requires-clause-holds : goal.exchange-queue-requires-clause-holds
+exchange-queue-requires-clause-holds g c =
+    let t = c.take_lead.ensures.taken c.in-Laden.is c.requires.sits.0 c.requires.sits.1 in
+    (t.queue, t.holds.slots)
+
+pub hear_one-requires : goal.hear_one-requires
+hear_one-requires g c =
+    let stands = g.M.SavingMachine.stands in
+    let lead = c.args.lead.now in
+    let others = c.requires.sits.0 in
+    let t = c.take_lead.ensures.taken c.in-Laden.is others c.requires.sits.1 in
+    let is : t.queue ≡ c.exchange-queue.result = lead_queue_is lead others stands c.take_lead.new.place.seat.me c.exchange-queue.new.place.seat.me c.link-link.result _ c.exchange-queue.result t c.exchange-queue.ensures.now c.exchange-queue.ensures.was in
+    λ message rest first.
+    t.learns c.args.from.0 message rest c.requires.from (c.link-link.ensures.number ∙ ap (λ (k : ℕ). link_no k c.args.from.0 lead.number) (add-one lead.number)) (ap (λ (l : LinkView). l.messages) is ∙ first)
+
+pub give_back_lead-requires-clause-holds : goal.give_back_lead-requires-clause-holds
+give_back_lead-requires-clause-holds g c =
+    let stands = g.M.SavingMachine.stands in
+    let about = c.args.self.now.table.table.shared.key.about in
+    let lead = c.args.lead.now in
+    let others = c.requires.sits.0 in
+    let t = c.take_lead.ensures.taken c.in-Laden.is others c.requires.sits.1 in
+    let is : t.queue ≡ c.exchange-queue.result = lead_queue_is lead others stands c.take_lead.new.place.seat.me c.exchange-queue.new.place.seat.me c.link-link.result _ c.exchange-queue.result t c.exchange-queue.ensures.now c.exchange-queue.ensures.was in
+    let after : Leading = record { number = lead.number; coordinator = c.hear_one.new.coordinator } in
+    let r : LinkView = c.hear_one.new.queue in
+    let carried : CarriesLink number_of (HasBeenLed stands about.failures.value.items about.done.value.items (standing_parts about.machines about.opening.value) about.machines) (link_no (suc lead.number) c.args.from.0 lead.number) (Lead lead) t.queue (Lead after) r =
+    ⊎_elim
+    (λ (one : (message : Message) × (c.exchange-queue.result.messages ≡ message_view message ∷ r.messages) × HasTakenReport lead.coordinator after.coordinator c.args.from.0 (message_view message)).
+    carries_report_heard stands about.failures.value.items about.done.value.items (standing_parts about.machines about.opening.value) about.machines lead after refl c.args.from.0 c.requires.from t.queue r one.0
+    (ap (λ (l : LinkView). l.messages) is ∙ one.1) one.2)
+    (λ (still : (r.messages ≡ c.exchange-queue.result.messages) × StaysCoordinator lead.coordinator after.coordinator).
+    carries_no_report stands about.failures.value.items about.done.value.items (standing_parts about.machines about.opening.value) about.machines lead after refl c.args.from.0 c.requires.from t.queue r
+    (still.0 ∙ ap (λ (l : LinkView). l.messages) (sym is)) still.1)
+    c.hear_one.ensures
+    in (
+      lead,
+      others,
+      t.queue,
+      _,
+      lead_holds_now lead others stands c.take_lead.new.place.seat.me c.exchange-queue.new.place.seat.me c.link-link.result _ c.exchange-queue.result t c.exchange-queue.ensures.now c.exchange-queue.ensures.was,
+      refl,
+      subst (λ (i : ℕ). CarriesLink number_of (HasBeenLed stands about.failures.value.items about.done.value.items (standing_parts about.machines about.opening.value) about.machines) i (Lead lead) t.queue (Lead after) r)
+          (sym (c.link-link.ensures.number ∙ ap (λ (k : ℕ). link_no k c.args.from.0 lead.number) (add-one lead.number))) carried,
+    )
+
+pub returns-then-some-clause-sits : goal.returns-then-some-clause-sits
+returns-then-some-clause-sits g c =
+    λ others s.
+    let lead = c.args.lead.now in
+    let t = c.take_lead.ensures.taken c.in-Laden.is others s in
+    c.give_back_lead.ensures.sits lead others t.queue _
+    (lead_holds_now lead others g.M.SavingMachine.stands c.take_lead.new.place.seat.me c.exchange-queue.new.place.seat.me c.link-link.result _ c.exchange-queue.result t c.exchange-queue.ensures.now c.exchange-queue.ensures.was)
+
+pub returns-else-some-clause-sits : goal.returns-else-some-clause-sits
+returns-else-some-clause-sits g c =
+    λ others s.
+    let lead = c.args.lead.now in
+    let t = c.take_lead.ensures.taken c.in-Laden.is others s in
+    c.give_back_lead.ensures.sits lead others t.queue _
+    (lead_holds_now lead others g.M.SavingMachine.stands c.take_lead.new.place.seat.me c.exchange-queue.new.place.seat.me c.link-link.result _ c.exchange-queue.result t c.exchange-queue.ensures.now c.exchange-queue.ensures.was)
