@@ -1,5 +1,5 @@
 -- The parts of a board that is closed stand for a later cluster of the same attempt.
-use Rattle.std.proofs.Common.{List, [], ap, arith, false, get_or, length, map, refl, subst, suc, sym, zero, ◌++◌, ◌+◌, ◌<◌, ◌^◌, ◌∙◌, ◌∷◌, ◌≡◌, ℕ}
+use Rattle.std.proofs.Common.{List, [], ap, arith, get_or, length, map, refl, subst, suc, sym, zero, ◌++◌, ◌+◌, ◌<◌, ◌^◌, ◌∙◌, ◌∷◌, ◌≡◌, ℕ}
 use Rattle.std.proofs.lemmas.List.{length-map}
 use Rattle.std.specs.List.{AllByRecursion}
 use Rattle.std.specs.Prelude.{slice_index_or}
@@ -16,7 +16,7 @@ use Rattle.cluster_step.proofs.trace.Going.{behind_append, ends_at, setting_now}
 use Rattle.cluster_step.specs.clusters.Clusters.{AreCalls, AreReports, IsCoordinatorOf, messages_on}
 use Rattle.cluster_step.specs.clusters.Inner.Writing.{HaveLinks}
 use Rattle.cluster_step.specs.clusters.Links.{message_read}
-use Rattle.cluster_step.specs.trace.Courses.{CallOpening, first_cluster, first_setting, newest_setting}
+use Rattle.cluster_step.specs.trace.Courses.{first_cluster, first_setting, newest_setting}
 use Rattle.coordinator.specs.coord_core.Coordinators.{CoordinatorView}
 use Rattle.coordinator.specs.machine_api.Promises.{MessageView}
 use Rattle.link_tables.specs.Rule.{Ended}
@@ -25,9 +25,9 @@ use Rattle.whole_laws.specs.cluster_whole.Whole.{IsNoRecovery, setting_behind}
 use Rattle.wire_board.proofs.Closing.{stood_so}
 use Rattle.wire_board.proofs.Goings.{done_stays}
 use Rattle.wire_board.proofs.Leads.{lead_is}
-use Rattle.wire_board.specs.Closings.{AreGathered, ArePutTogether, CourseView, IsCourseNow, IsLaterInAttempt, gathered}
-use Rattle.wire_board.specs.Going.{Cluster, FailureAt, GoesTo, IsSavingClusterOf, IsSnapSetting, Machine, Parts, Setting}
-use Rattle.wire_board.specs.Led.{AreHeld, HasBeenLed, IsLeadOf, IsMachineAt, Lead, Leading, LinkView, Node, Seated, Standing, StandsOwing, link_between, link_no, number_of}
+use Rattle.wire_board.specs.Closings.{AreGathered, ArePutTogether, CourseView, IsLaterInAttempt, gathered}
+use Rattle.wire_board.specs.Going.{Cluster, GoesTo, IsSavingClusterOf, IsSnapSetting, Machine, Parts, Setting}
+use Rattle.wire_board.specs.Led.{AreHeld, HasBeenLed, IsMachineAt, Lead, Leading, LinkView, Node, Seated, Standing, StandsOwing, link_between, number_of}
 use Rattle.wire_board.specs.Openings.{AreOpening, standing_parts}
 use Rattle.wire_board.specs.Standings.{Member, at_rest}
 

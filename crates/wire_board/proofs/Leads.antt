@@ -1,5 +1,5 @@
 -- What the steps of the coordinator's seat owe the rule.
-use Rattle.std.proofs.Common.{List, Some, [], ap, arith, false, inl, inr, length, length-set, refl, subst, suc, sym, ◌++◌, ◌<◌, ◌∙◌, ◌∷◌, ◌≡◌, ◌≢◌, ⊎_elim, ℕ}
+use Rattle.std.proofs.Common.{List, Some, [], ap, arith, inl, inr, length-set, refl, subst, suc, sym, ◌++◌, ◌<◌, ◌∙◌, ◌∷◌, ◌≡◌, ◌≢◌, ⊎_elim, ℕ}
 use Rattle.std.proofs.lemmas.Bool.{cases_eq}
 use Rattle.std.specs.Prelude.{slice_get, slice_set}
 use Rattle.cluster_laws.specs.cluster_model.Clusters.{with_coordinator}
@@ -8,7 +8,6 @@ use Rattle.cluster_laws.specs.cluster_model.Leading.{Coordinator}
 use Rattle.call_laws.specs.whole_calls.Following.{FollowsJob}
 use Rattle.cluster_step.proofs.clusters.Leading.{may_report}
 use Rattle.cluster_step.proofs.clusters.LinkLemmas.{has_link}
-use Rattle.cluster_step.specs.clusters.Inner.Writing.{with_link_between}
 use Rattle.coordinator.specs.coord_core.Calls.{HasHandedOver, HasTakenReport, MayLead, MayReport, StaysCoordinator}
 use Rattle.coordinator.specs.coord_core.Coordinators.{CoordinatorView, IsCoordinatorOf}
 use Rattle.coordinator.specs.machine_api.Promises.{MessageView, message_view}
@@ -21,7 +20,7 @@ use Rattle.atomic_table.proofs.Lists.{at_set}
 use Rattle.wire_board.proofs.Holding.{held_link, is_there}
 use Rattle.wire_board.proofs.Ruling.{have_all, led_on, same_link}
 use Rattle.wire_board.proofs.Singles.{call_told_goes, led_goes, report_heard_goes, stays_goes, stays_led_goes}
-use Rattle.wire_board.specs.Going.{Cluster, FailureAt, GoesOn, Machine, Parts, Setting}
+use Rattle.wire_board.specs.Going.{Cluster, FailureAt, Machine, Parts, Setting}
 use Rattle.wire_board.specs.Led.{AreHeld, HasBeenLed, IsLeadOf, IsMachineAt, Lead, Leading, Learns, LinkView, Node, Seated, Standing, StandsOwing, link_between, link_no, number_of}
 use Rattle.wire.specs.declared.wire_msgs.messages.Message.{Message}
 

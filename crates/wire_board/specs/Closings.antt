@@ -8,7 +8,7 @@ use mathlib.Core.Option.{some}
 use lib.ListN.{get_elem?}
 use Rattle.cluster_laws.specs.cluster_model.Events as law
 use Rattle.cluster_step.specs.clusters.Inner.Writing.{HaveLinks}
-use Rattle.cluster_step.specs.trace.Courses.{Cluster, CallOpening, InEachCourse}
+use Rattle.cluster_step.specs.trace.Courses.{Cluster, InEachCourse}
 use Rattle.whole_laws.specs.cluster_whole.Whole.{IsNoRecovery}
 use Rattle.wire_board.specs.Led.{link_between, link_no}
 

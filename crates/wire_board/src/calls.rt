@@ -1,36 +1,49 @@
 //! What goes between a machine and the coordinator on a link.
+ghost use Rattle.std.specs.Prelude.{◌≡◌, ◌++◌, ◌∷◌, [], true, false, IfOk};
+ghost use Rattle.coordinator.specs.machine_api.Promises.{HasHeard, IsReporting, OfEach, message_view};
+ghost use Rattle.wire.specs.declared.wire_msgs.messages.Message.{Message};
 ghost use Rattle.wire_board.specs.Hearing.{HasHeardFirst, HasToldFirst, MayHearFirst};
 
 use cluster_step::clusters::{Link, SavingMachine};
 use gl_base::NoMemory;
 
-/// Hears the first call of the link, where there is one. For want of memory it stays.
+/// Hears the first call of the link, and says whether there was one. For want of memory it stays.
 pub(crate) fn hear_first<M: SavingMachine>(
     machine: &mut M,
     queue: &mut Link,
-) -> Result<(), NoMemory>
+) -> Result<bool, NoMemory>
     requires { MayHearFirst M.stands machine.old queue.old.messages }
-    ensures { HasHeardFirst M.stands machine.old queue.old.messages queue.new.messages machine.new }
+    ensures both { HasHeardFirst M.stands machine.old queue.old.messages queue.new.messages machine.new }
+    ensures heard { IfOk result (λ some. some ≡ true → (message : Message) × (queue.old.messages ≡ message_view message ∷ queue.new.messages) × HasHeard M.stands machine.old message machine.new) }
+    ensures none { IfOk result (λ some. some ≡ false → machine.new ≡ machine.old) }
 {
-    if let Some(message) = queue.take() {
-        if let Err(back) = machine.hear(message) {
-            queue.put_back(back.message);
-            return Err(NoMemory);
-        }
+    match queue.take() {
+        Some(message) => match machine.hear(message) {
+            Ok(()) => Ok(true),
+            Err(back) => {
+                queue.put_back(back.message);
+                Err(NoMemory)
+            }
+        },
+        None => Ok(false),
     }
-    Ok(())
 }
 
-/// Puts the machine's first report on the link, where there is one. For want of memory it stays.
+/// Puts the machine's first report on the link, and says whether there was one. For want of memory it stays.
 pub(crate) fn tell_first<M: SavingMachine>(
     machine: &mut M,
     queue: &mut Link,
-) -> Result<(), NoMemory>
-    ensures { HasToldFirst M.stands machine.old queue.old.messages queue.new.messages machine.new }
+) -> Result<bool, NoMemory>
+    ensures both { HasToldFirst M.stands machine.old queue.old.messages queue.new.messages machine.new }
+    ensures told { IfOk result (λ some. some ≡ true → (message : Message) × (queue.new.messages ≡ queue.old.messages ++ message_view message ∷ []) × OfEach M.stands machine.old (IsReporting M.stands message machine.new)) }
+    ensures none { IfOk result (λ some. some ≡ false → OfEach M.stands machine.old (λ st a m. m.out ≡ [])) }
 {
     queue.reserve()?;
-    if let Some(message) = machine.report_take() {
-        queue.push(message);
+    match machine.report_take() {
+        Some(message) => {
+            queue.push(message);
+            Ok(true)
+        }
+        None => Ok(false),
     }
-    Ok(())
 }

@@ -1,10 +1,11 @@
 //! What a machine's seat hears and tells on the links.
-ghost use Rattle.std.specs.Prelude.{◌≡◌, ◌≢◌, ◌+◌, ◌*◌, ◌^◌, ◌<◌, ◌++◌, ℕ, suc, List, [], length, true, false, map, IfOk, OnOk};
+ghost use Rattle.std.specs.Prelude.{◌≡◌, ◌≢◌, ◌+◌, ◌-◌, ◌*◌, ◌^◌, ◌<◌, ◌++◌, ℕ, suc, List, [], length, true, false, map, IfOk, OnOk};
 ghost use Rattle.link_tables.specs.Rule.{CarriesLink};
 ghost use Rattle.link_tables.specs.Seats.{HoldsLink, number_in};
 ghost use Rattle.link_tables.specs.declared.words.LinkWord.{LinkWord};
 ghost use Rattle.link_tables.specs.declared.words.LinkWord.TheVariants.{Bare, Laden, Out};
-ghost use Rattle.coordinator.specs.machine_api.Promises.{HasNext, OfEach};
+ghost use Rattle.coordinator.specs.machine_api.Promises.{HasHeard, HasNext, IsReporting, MayHearCall, OfEach};
+ghost use Rattle.wire.specs.declared.wire_msgs.messages.Message.{Message};
 ghost use Rattle.coordinator.specs.machine_api.Told.{message_read};
 ghost use Rattle.wire_board.specs.Freeing.{IsFree};
 ghost use Rattle.wire_board.specs.Hearing.{CanHear, HasHeardAll, HasHeardFirst, HasToldAll, HasToldFirst, MayHearFirst, MessageView};
@@ -160,8 +161,11 @@ impl<M: SavingMachine> Board<M> {
         ensures table { place.new.seat.table_id ≡ place.old.seat.table_id }
         ensures sits { Sits M.stands member.new place.new.seat.me }
         ensures same { (member.new.number ≡ member.old.number) × (member.new.peers ≡ member.old.peers) }
+        ensures applied { IfOk result (λ how. how ≡ Heard.Applied → (message : Message) × MayHearCall M.stands member.old.machine message × HasHeard M.stands member.old.machine message member.new.machine) }
+        ensures empty { IfOk result (λ how. how ≡ Heard.Empty → (member.new.machine ≡ member.old.machine)
+            × (word : LinkWord) × (word ≢ Out) × (place.new.seat.me.0.found ≡ (word_at (link_no member.old.peers (member.old.peers - 1) member.old.number), number_in word))) }
         ensures busy { IfOk result (λ how. how ≡ Heard.Busy → (member.new.machine ≡ member.old.machine)
-            × (lead : ℕ) × (suc lead ≡ member.old.peers) × (place.new.seat.me.0.found ≡ (word_at (link_no member.old.peers lead member.old.number), number_in Out))) }
+            × (place.new.seat.me.0.found ≡ (word_at (link_no member.old.peers (member.old.peers - 1) member.old.number), number_in Out))) }
     {
         let link = self.link(member.peers - 1, member.number, member.peers);
         match self.take_laden(member, place, link) {
@@ -170,14 +174,16 @@ impl<M: SavingMachine> Board<M> {
             LinkWord::Laden => (),
         }
         let mut queue = self.table.exchange(place, link, Link::new(alloc));
-        let some = !queue.is_empty();
         let heard = hear_first(&mut member.machine, &mut queue);
         self.give_back(member, place, link, queue);
-        heard?;
-        Ok(if some { Heard::Applied } else { Heard::Empty })
+        if heard? {
+            Ok(Heard::Applied)
+        } else {
+            Ok(Heard::Empty)
+        }
     }
 
-    /// Tells the coordinator the first report that waits.
+    /// Tells the coordinator the first report that waits. `Nothing` comes only where none waits.
     pub fn tell_report(
         &self,
         alloc: Global,
@@ -191,7 +197,10 @@ impl<M: SavingMachine> Board<M> {
         ensures table { place.new.seat.table_id ≡ place.old.seat.table_id }
         ensures sits { Sits M.stands member.new place.new.seat.me }
         ensures same { (member.new.number ≡ member.old.number) × (member.new.peers ≡ member.old.peers) }
-        ensures nothing { IfOk result (λ how. how ≡ Told.Nothing → (member.new.machine ≡ member.old.machine) × OfEach M.stands member.old.machine (λ st a m. HasNext m.out → ⊥)) }
+        ensures moved { IfOk result (λ how. how ≡ Told.Moved → (message : Message) × OfEach M.stands member.old.machine (IsReporting M.stands message member.new.machine)) }
+        ensures nothing { IfOk result (λ how. how ≡ Told.Nothing → OfEach M.stands member.old.machine (λ st a m. HasNext m.out → ⊥)) }
+        ensures busy { IfOk result (λ how. how ≡ Told.Busy → (member.new.machine ≡ member.old.machine)
+            × (word : LinkWord) × (word ≢ Bare) × (place.new.seat.me.0.found ≡ (word_at (link_no member.old.peers member.old.number (member.old.peers - 1)), number_in word))) }
     {
         if !member.machine.has_report() {
             return Ok(Told::Nothing);
@@ -203,8 +212,11 @@ impl<M: SavingMachine> Board<M> {
         let mut queue = self.table.exchange(place, link, Link::new(alloc));
         let told = tell_first(&mut member.machine, &mut queue);
         self.give_back(member, place, link, queue);
-        told?;
-        Ok(Told::Moved)
+        if told? {
+            Ok(Told::Moved)
+        } else {
+            Ok(Told::Nothing)
+        }
     }
 
     /// Takes a link on which something may be, and returns the word that it found. The seat has the link where that is `Laden`.

@@ -1,10 +1,15 @@
 //! What the coordinator's seat tells machines and hears of them.
-ghost use Rattle.std.specs.Prelude.{◌≡◌, ◌≢◌, ◌+◌, ◌*◌, ◌^◌, ◌<◌, ℕ, suc, true, false, List, IfOk};
+ghost use Rattle.std.specs.Prelude.{◌≡◌, ◌≢◌, ◌⊎◌, ◌*◌, ◌^◌, ◌<◌, ℕ, suc, true, false, List, None, Some, IfOk, slice_index_or};
 ghost use Rattle.cluster_step.specs.clusters.Links.{LinkView};
+ghost use Rattle.coordinator.specs.coord_core.Calls.{HasHandedOver, HasTakenReport, MayReport};
+ghost use Rattle.coordinator.specs.coord_core.Coordinators.{no_outbox};
+ghost use Rattle.coordinator.specs.machine_api.Promises.{message_view};
 ghost use Rattle.link_tables.specs.Rule.{CarriesLink};
 ghost use Rattle.link_tables.specs.Seats.{HoldsLink, number_in, word_at};
 ghost use Rattle.link_tables.specs.declared.words.LinkWord.{LinkWord};
 ghost use Rattle.link_tables.specs.declared.words.LinkWord.TheVariants.{Bare, Laden, Out};
+ghost use Rattle.wire.specs.declared.wire_msgs.messages.Message.{Message};
+ghost use Rattle.wire.specs.outboxes.Outboxes.{has_waiting};
 ghost use Rattle.wire_board.specs.Led.{HasBeenLed, Lead, link_no, number_of};
 ghost use Rattle.wire_board.specs.Openings.{standing_parts};
 ghost use Rattle.wire_board.specs.Seats.{HasTakenLead, Leads};
@@ -35,6 +40,10 @@ impl<M: SavingMachine> Board<M> {
         ensures table { place.new.seat.table_id ≡ place.old.seat.table_id }
         ensures sits { (others : List (Seated M)) → Leads lead.old others place.old.seat.me → Leads lead.new others place.new.seat.me }
         ensures number { lead.new.number ≡ lead.old.number }
+        ensures moved { IfOk result (λ how. how ≡ Told.Moved → (message : Message) × HasHandedOver lead.old.coordinator lead.new.coordinator to.0 (Some message)) }
+        ensures nothing { IfOk result (λ how. how ≡ Told.Nothing → (has_waiting (slice_index_or lead.old.coordinator.out.machines to.0 no_outbox) ≡ false) ⊎ HasHandedOver lead.old.coordinator lead.new.coordinator to.0 None) }
+        ensures busy { IfOk result (λ how. how ≡ Told.Busy → (lead.new.coordinator ≡ lead.old.coordinator)
+            × (word : LinkWord) × (word ≢ Laden) × (place.new.seat.me.0.found ≡ (word_at (link_no (suc lead.old.number) lead.old.number to.0), number_in word))) }
     {
         if !lead.coordinator.waits(to) {
             return Ok(Told::Nothing);
@@ -46,8 +55,11 @@ impl<M: SavingMachine> Board<M> {
         let mut queue = self.table.exchange(place, link, Link::new(alloc));
         let told = tell_one(&mut lead.coordinator, &mut queue, to);
         self.give_back_lead(lead, place, link, queue);
-        told?;
-        Ok(Told::Moved)
+        if told? {
+            Ok(Told::Moved)
+        } else {
+            Ok(Told::Nothing)
+        }
     }
 
     /// Takes the first report of a machine off the link from it. `Busy` comes only where another seat has the link.
@@ -65,6 +77,10 @@ impl<M: SavingMachine> Board<M> {
         ensures table { place.new.seat.table_id ≡ place.old.seat.table_id }
         ensures sits { (others : List (Seated M)) → Leads lead.old others place.old.seat.me → Leads lead.new others place.new.seat.me }
         ensures number { lead.new.number ≡ lead.old.number }
+        ensures applied { result ≡ Heard.Applied → (message : Message) × MayReport lead.old.coordinator from.0 (message_view message) × HasTakenReport lead.old.coordinator lead.new.coordinator from.0 (message_view message) }
+        ensures empty { result ≡ Heard.Empty → (lead.new.coordinator ≡ lead.old.coordinator)
+            × (word : LinkWord) × (word ≢ Out) × (place.new.seat.me.0.found ≡ (word_at (link_no (suc lead.old.number) from.0 lead.old.number), number_in word)) }
+        ensures busy { result ≡ Heard.Busy → (lead.new.coordinator ≡ lead.old.coordinator) × (place.new.seat.me.0.found ≡ (word_at (link_no (suc lead.old.number) from.0 lead.old.number), number_in Out)) }
     {
         let link = self.link(from.0 as usize, lead.number, lead.number + 1);
         match self.take_lead(lead, place, link, LinkWord::Laden) {
@@ -73,8 +89,7 @@ impl<M: SavingMachine> Board<M> {
             LinkWord::Laden => (),
         }
         let mut queue = self.table.exchange(place, link, Link::new(alloc));
-        let some = !queue.is_empty();
-        hear_one(&mut lead.coordinator, &mut queue, from);
+        let some = hear_one(&mut lead.coordinator, &mut queue, from);
         self.give_back_lead(lead, place, link, queue);
         if some { Heard::Applied } else { Heard::Empty }
     }
@@ -92,6 +107,7 @@ impl<M: SavingMachine> Board<M> {
         ensures table { place.new.seat.table_id ≡ place.old.seat.table_id }
         ensures taken { result ≡ true → (others : List (Seated M)) → Leads lead.now others place.old.seat.me → HasTakenLead M.stands lead.now others link place.new.seat.me }
         ensures missed { result ≡ false → (others : List (Seated M)) → Leads lead.now others place.old.seat.me → Leads lead.now others place.new.seat.me }
+        ensures found { result ≡ false → (word : LinkWord) × (word ≢ Laden) × (place.new.seat.me.0.found ≡ (word_at link, number_in word)) }
     {
         match self.take_lead(lead, place, link, LinkWord::Bare) {
             LinkWord::Bare => true,
@@ -118,6 +134,7 @@ impl<M: SavingMachine> Board<M> {
         ensures table { place.new.seat.table_id ≡ place.old.seat.table_id }
         ensures taken { result ≡ expected → (others : List (Seated M)) → Leads lead.now others place.old.seat.me → HasTakenLead M.stands lead.now others link place.new.seat.me }
         ensures missed { result ≢ expected → (others : List (Seated M)) → Leads lead.now others place.old.seat.me → Leads lead.now others place.new.seat.me }
+        ensures found { place.new.seat.me.0.found ≡ (word_at link, number_in result) }
     {
         self.table
             .take::<Brand, Leading>(place, link, expected, lead)
@@ -137,6 +154,7 @@ impl<M: SavingMachine> Board<M> {
             × CarriesLink number_of (HasBeenLed M.stands self.now.table.table.shared.key.about.failures.value.items self.now.table.table.shared.key.about.done.value.items
             (standing_parts self.now.table.table.shared.key.about.machines self.now.table.table.shared.key.about.opening.value) self.now.table.table.shared.key.about.machines) link (Lead old) q (Lead lead.now) queue }
         ensures table { place.new.seat.table_id ≡ place.old.seat.table_id }
+        ensures found { place.new.seat.me.0.found ≡ place.old.seat.me.0.found }
         ensures sits { (old : Leading) (others : List (Seated M)) (q r : LinkView) → HoldsLink place.old.seat.me (Lead old) others link q r → Leads lead.now others place.new.seat.me }
     {
         let word = word_of(&queue);

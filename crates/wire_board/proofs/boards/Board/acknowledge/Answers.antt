@@ -1,7 +1,7 @@
 use Rattle.std.proofs.Common.{refl}
 use Rattle.cluster_laws.specs.cluster_model.Events as law
 use Rattle.cluster_laws.specs.cluster_model.Leading.{acknowledges}
-use Rattle.wire_board.proofs.LeadPlaces.{leads_changed, leads_still}
+use Rattle.wire_board.proofs.LeadPlaces.{leads_changed}
 use Rattle.wire_board.proofs.Leads.{carries_led}
 use Rattle.wire_board.specs.Led.{Lead, Leading}
 use Rattle.wire_board.specs.Openings.{standing_parts}

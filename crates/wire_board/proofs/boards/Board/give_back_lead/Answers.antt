@@ -1,4 +1,4 @@
-use Rattle.std.proofs.Common.{refl}
+use Rattle.std.proofs.Common.{ap, refl, ◌∙◌}
 use Rattle.link_tables.proofs.Standing.{holds_another}
 use Rattle.wire_board.proofs.LeadPlaces.{leads_given}
 use Rattle.wire_board.specs.Led.{Lead}
@@ -25,3 +25,6 @@ returns-clause-sits g c =
     leads_given c.args.lead.now others c.exchange.new.place.seat.me c.give.new.place.seat.me (Lead old) c.args.link q c.args.queue
     (holds_another c.args.place.now.seat.me c.exchange.new.place.seat.me (Lead old) others c.args.link q r c.args.queue h c.exchange.ensures.now)
     (c.give.ensures.given (Lead c.args.lead.now) refl)
+
+pub returns-clause-found : goal.returns-clause-found
+returns-clause-found g c = ap (λ me. me.0.found) (c.give.ensures.given (Lead c.args.lead.now) refl) ∙ ap (λ me. me.0.found) c.exchange.ensures.now

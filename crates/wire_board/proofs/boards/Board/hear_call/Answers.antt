@@ -1,4 +1,4 @@
-use Rattle.std.proofs.Common.{arith, refl, subst, suc, sym, ◌-◌, ◌≡◌, ℕ}
+use Rattle.std.proofs.Common.{ap, arith, refl, subst, suc, sym, ◌-◌, ◌∙◌, ◌≡◌, ℕ}
 use Rattle.link_tables.specs.Rule.{CarriesLink}
 use Rattle.wire_board.proofs.Places.{holds_now, queue_is}
 use Rattle.wire_board.proofs.Ruling.{carries_call}
@@ -41,5 +41,17 @@ give_back-requires-clause-holds g c =
       refl,
       subst (λ (i : ℕ). CarriesLink number_of (HasBeenLed stands about.failures.value.items about.done.value.items (standing_parts about.machines about.opening.value) about.machines) i (Node (at_rest member)) t.queue (Node (at_rest after)) c.hear_first-heard.new.queue) (sym c.link-link.ensures.number)
           (carries_call stands about.failures.value.items about.done.value.items (standing_parts about.machines about.opening.value) about.machines member after refl refl t.queue c.hear_first-heard.new.queue (member.peers - 1) last
-          (subst (λ (l : LinkView). HasHeardFirst stands member.machine l.messages c.hear_first-heard.new.queue.messages after.machine) (sym is) c.hear_first-heard.ensures) c.requires.free),
+          (subst (λ (l : LinkView). HasHeardFirst stands member.machine l.messages c.hear_first-heard.new.queue.messages after.machine) (sym is) c.hear_first-heard.ensures.both) c.requires.free),
     )
+
+pub returns-then-branch-clause-applied : goal.returns-then-branch-clause-applied
+returns-then-branch-clause-applied g c =
+    λ same.
+    let stands = g.M.SavingMachine.stands in
+    let member = c.args.member.now in
+    let t = c.take_laden.ensures.taken c.in-Laden.is in
+    let is : t.queue ≡ c.exchange-queue.result = queue_is stands member c.take_laden.new.place.seat.me c.exchange-queue.new.place.seat.me c.link-link.result _ c.exchange-queue.result t c.exchange-queue.ensures.now c.exchange-queue.ensures.was in
+    let inside = c.requires.inside in
+    let last : suc (member.peers - 1) ≡ member.peers = omega arith in
+    let heard = c.in_ok-heard.ensures.heard c.if-branch.true in
+    (heard.0, t.learns.1 (member.peers - 1) last c.link-link.ensures.number heard.0 c.hear_first-heard.new.queue.messages (ap (λ (l : LinkView). l.messages) is ∙ heard.1), heard.2)

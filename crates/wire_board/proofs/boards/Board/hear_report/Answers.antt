@@ -1,14 +1,15 @@
-use Rattle.std.proofs.Common.{List, add-one, ap, refl, subst, suc, sym, ⊎_elim, ◌+◌, ◌++◌, ◌∙◌, ◌∷◌, ◌≡◌, ℕ, [], Some}
-use Rattle.coordinator.specs.coord_core.Calls.{HasHandedOver, HasTakenReport, StaysCoordinator}
+use Rattle.std.proofs.Common.{add-one, ap, refl, subst, suc, sym, ⊎_elim, ◌∙◌, ◌∷◌, ◌≡◌, ℕ}
+use Rattle.coordinator.specs.coord_core.Calls.{HasTakenReport, StaysCoordinator}
 use Rattle.coordinator.specs.machine_api.Promises.{message_view}
 use Rattle.link_tables.specs.Rule.{CarriesLink}
+use Rattle.link_tables.specs.Seats.{number_in, word_at}
 use Rattle.wire.specs.declared.wire_msgs.messages.Message.{Message}
 use Rattle.wire_board.proofs.LeadPlaces.{lead_holds_now, lead_queue_is}
 use Rattle.wire_board.proofs.Leads.{carries_no_report, carries_report_heard}
 use Rattle.wire_board.specs.Led.{HasBeenLed, Lead, Leading, LinkView, link_no, number_of}
 use Rattle.wire_board.specs.Openings.{standing_parts}
 use Rattle.wire_board.proofs.boards.Board.hear_report.Goals as goal
-use Rattle.link_tables.specs.declared.words.LinkWord.TheVariants.{Laden}
+use Rattle.link_tables.specs.declared.words.LinkWord.TheVariants.{Bare, Laden}
 
 pub returns-in-Bare-clause-sits : goal.returns-in-Bare-clause-sits
 returns-in-Bare-clause-sits g c = let is = c.in-Bare.is in λ others s. c.take_lead.ensures.missed (λ e. cc) others s
@@ -21,8 +22,8 @@ exchange-queue-requires-clause-holds g c =
     let t = c.take_lead.ensures.taken c.in-Laden.is c.requires.sits.0 c.requires.sits.1 in
     (t.queue, t.holds.slots)
 
-pub hear_one-requires : goal.hear_one-requires
-hear_one-requires g c =
+pub hear_one-some-requires : goal.hear_one-some-requires
+hear_one-some-requires g c =
     let stands = g.M.SavingMachine.stands in
     let lead = c.args.lead.now in
     let others = c.requires.sits.0 in
@@ -39,8 +40,8 @@ give_back_lead-requires-clause-holds g c =
     let others = c.requires.sits.0 in
     let t = c.take_lead.ensures.taken c.in-Laden.is others c.requires.sits.1 in
     let is : t.queue ≡ c.exchange-queue.result = lead_queue_is lead others stands c.take_lead.new.place.seat.me c.exchange-queue.new.place.seat.me c.link-link.result _ c.exchange-queue.result t c.exchange-queue.ensures.now c.exchange-queue.ensures.was in
-    let after : Leading = record { number = lead.number; coordinator = c.hear_one.new.coordinator } in
-    let r : LinkView = c.hear_one.new.queue in
+    let after : Leading = record { number = lead.number; coordinator = c.hear_one-some.new.coordinator } in
+    let r : LinkView = c.hear_one-some.new.queue in
     let carried : CarriesLink number_of (HasBeenLed stands about.failures.value.items about.done.value.items (standing_parts about.machines about.opening.value) about.machines) (link_no (suc lead.number) c.args.from.0 lead.number) (Lead lead) t.queue (Lead after) r =
     ⊎_elim
     (λ (one : (message : Message) × (c.exchange-queue.result.messages ≡ message_view message ∷ r.messages) × HasTakenReport lead.coordinator after.coordinator c.args.from.0 (message_view message)).
@@ -49,7 +50,7 @@ give_back_lead-requires-clause-holds g c =
     (λ (still : (r.messages ≡ c.exchange-queue.result.messages) × StaysCoordinator lead.coordinator after.coordinator).
     carries_no_report stands about.failures.value.items about.done.value.items (standing_parts about.machines about.opening.value) about.machines lead after refl c.args.from.0 c.requires.from t.queue r
     (still.0 ∙ ap (λ (l : LinkView). l.messages) (sym is)) still.1)
-    c.hear_one.ensures
+    c.hear_one-some.ensures.both
     in (
       lead,
       others,
@@ -76,3 +77,46 @@ returns-else-some-clause-sits g c =
     let t = c.take_lead.ensures.taken c.in-Laden.is others s in
     c.give_back_lead.ensures.sits lead others t.queue _
     (lead_holds_now lead others g.M.SavingMachine.stands c.take_lead.new.place.seat.me c.exchange-queue.new.place.seat.me c.link-link.result _ c.exchange-queue.result t c.exchange-queue.ensures.now c.exchange-queue.ensures.was)
+
+pub returns-in-Bare-clause-empty : goal.returns-in-Bare-clause-empty
+returns-in-Bare-clause-empty g c =
+    λ same.
+    let number : c.link-link.result ≡ link_no (suc c.args.lead.now.number) c.args.from.0 c.args.lead.now.number =
+    c.link-link.ensures.number ∙ ap (λ (k : ℕ). link_no k c.args.from.0 c.args.lead.now.number) (add-one c.args.lead.now.number)
+    in
+    (refl, Bare, (λ e. cc), c.take_lead.ensures.found ∙ (λ i. (word_at (number i), number_in (c.in-Bare.is i))))
+
+pub returns-in-Out-clause-busy : goal.returns-in-Out-clause-busy
+returns-in-Out-clause-busy g c =
+    λ same.
+    let number : c.link-link.result ≡ link_no (suc c.args.lead.now.number) c.args.from.0 c.args.lead.now.number =
+    c.link-link.ensures.number ∙ ap (λ (k : ℕ). link_no k c.args.from.0 c.args.lead.now.number) (add-one c.args.lead.now.number)
+    in
+    (refl, c.take_lead.ensures.found ∙ (λ i. (word_at (number i), number_in (c.in-Out.is i))))
+
+pub returns-else-some-clause-empty : goal.returns-else-some-clause-empty
+returns-else-some-clause-empty g c =
+    λ same.
+    let number : c.link-link.result ≡ link_no (suc c.args.lead.now.number) c.args.from.0 c.args.lead.now.number =
+    c.link-link.ensures.number ∙ ap (λ (k : ℕ). link_no k c.args.from.0 c.args.lead.now.number) (add-one c.args.lead.now.number)
+    in (
+      c.hear_one-some.ensures.none c.if-some.false,
+      Laden,
+      (λ e. cc),
+      c.give_back_lead.ensures.found ∙ ap (λ me. me.0.found) c.exchange-queue.ensures.now ∙ c.take_lead.ensures.found ∙ (λ i. (word_at (number i), number_in (c.in-Laden.is i))),
+    )
+
+pub returns-then-some-clause-applied : goal.returns-then-some-clause-applied
+returns-then-some-clause-applied g c =
+    λ same.
+    let stands = g.M.SavingMachine.stands in
+    let lead = c.args.lead.now in
+    let others = c.requires.sits.0 in
+    let t = c.take_lead.ensures.taken c.in-Laden.is others c.requires.sits.1 in
+    let is : t.queue ≡ c.exchange-queue.result = lead_queue_is lead others stands c.take_lead.new.place.seat.me c.exchange-queue.new.place.seat.me c.link-link.result _ c.exchange-queue.result t c.exchange-queue.ensures.now c.exchange-queue.ensures.was in
+    let heard = c.hear_one-some.ensures.heard c.if-some.true in (
+      heard.0,
+      t.learns c.args.from.0 heard.0 c.hear_one-some.new.queue.messages c.requires.from (c.link-link.ensures.number ∙ ap (λ (k : ℕ). link_no k c.args.from.0 lead.number) (add-one lead.number))
+          (ap (λ (l : LinkView). l.messages) is ∙ heard.1),
+      heard.2,
+    )

@@ -1,4 +1,5 @@
-use Rattle.std.proofs.Common.{refl}
+use Rattle.std.proofs.Common.{ap, refl, ⊎_elim, ◌≡◌, ◌≢◌}
+use Rattle.wire_board.proofs.Places.{word_cases}
 use Rattle.wire_board.proofs.LeadPlaces.{lead_has_taken, leads_read}
 use Rattle.wire_board.proofs.Leads.{carries_stays, learnt_lead}
 use Rattle.wire_board.specs.Led.{Lead}
@@ -29,3 +30,10 @@ returns-clause-taken g c =
 
 pub returns-clause-missed : goal.returns-clause-missed
 returns-clause-missed g c = λ off others s. leads_read c.args.lead.now others c.args.place.now.seat.me c.take.new.place.seat.me _ _ s (c.take.ensures.missed off)
+
+pub returns-clause-found : goal.returns-clause-found
+returns-clause-found g c =
+    ⊎_elim
+    (λ (same : c.take.result ≡ c.args.expected). ap (λ me. me.0.found) (c.take.ensures.taken same (Lead c.args.lead.now) refl).1)
+    (λ (off : c.take.result ≢ c.args.expected). ap (λ me. me.0.found) (c.take.ensures.missed off))
+    (word_cases c.take.result c.args.expected)

@@ -1,7 +1,8 @@
-use Rattle.std.proofs.Common.{List, add-one, ap, refl, subst, suc, sym, ⊎_elim, ◌+◌, ◌++◌, ◌∙◌, ◌∷◌, ◌≡◌, ℕ, [], Some}
-use Rattle.coordinator.specs.coord_core.Calls.{HasHandedOver, HasTakenReport, StaysCoordinator}
+use Rattle.std.proofs.Common.{inl, inr, add-one, ap, refl, subst, suc, sym, ⊎_elim, ◌++◌, ◌∙◌, ◌∷◌, ◌≡◌, ℕ, [], Some}
+use Rattle.coordinator.specs.coord_core.Calls.{HasHandedOver, StaysCoordinator}
 use Rattle.coordinator.specs.machine_api.Promises.{message_view}
 use Rattle.link_tables.specs.Rule.{CarriesLink}
+use Rattle.link_tables.specs.Seats.{number_in, word_at}
 use Rattle.wire.specs.declared.wire_msgs.messages.Message.{Message}
 use Rattle.wire_board.proofs.LeadPlaces.{lead_holds_now, lead_queue_is}
 use Rattle.wire_board.proofs.Leads.{carries_call_told, carries_no_call}
@@ -35,7 +36,7 @@ give_back_lead-requires-clause-holds g c =
     (λ (still : (r.messages ≡ c.exchange-queue.result.messages) × StaysCoordinator lead.coordinator after.coordinator).
     carries_no_call stands about.failures.value.items about.done.value.items (standing_parts about.machines about.opening.value) about.machines lead after refl c.args.to.0 c.requires.to t.queue r
     (still.0 ∙ ap (λ (l : LinkView). l.messages) (sym is)) still.1)
-    c.tell_one-told.ensures
+    c.tell_one-told.ensures.both
     in (
       lead,
       others,
@@ -47,8 +48,16 @@ give_back_lead-requires-clause-holds g c =
           (sym (c.link-link.ensures.number ∙ ap (λ (k : ℕ). link_no k lead.number c.args.to.0) (add-one lead.number))) carried,
     )
 
-pub returns-clause-sits : goal.returns-clause-sits
-returns-clause-sits g c =
+pub returns-then-branch-clause-sits : goal.returns-then-branch-clause-sits
+returns-then-branch-clause-sits g c =
+    λ others s.
+    let lead = c.args.lead.now in
+    let t = c.take_home_lead.ensures.taken c.if-not-take_home_lead.false others s in
+    c.give_back_lead.ensures.sits lead others t.queue _
+    (lead_holds_now lead others g.M.SavingMachine.stands c.take_home_lead.new.place.seat.me c.exchange-queue.new.place.seat.me c.link-link.result _ c.exchange-queue.result t c.exchange-queue.ensures.now c.exchange-queue.ensures.was)
+
+pub returns-else-branch-clause-sits : goal.returns-else-branch-clause-sits
+returns-else-branch-clause-sits g c =
     λ others s.
     let lead = c.args.lead.now in
     let t = c.take_home_lead.ensures.taken c.if-not-take_home_lead.false others s in
@@ -62,3 +71,21 @@ returns-in_err-told-clause-sits g c =
     let t = c.take_home_lead.ensures.taken c.if-not-take_home_lead.false others s in
     c.give_back_lead.ensures.sits lead others t.queue _
     (lead_holds_now lead others g.M.SavingMachine.stands c.take_home_lead.new.place.seat.me c.exchange-queue.new.place.seat.me c.link-link.result _ c.exchange-queue.result t c.exchange-queue.ensures.now c.exchange-queue.ensures.was)
+
+pub returns-then-not-waits-clause-nothing : goal.returns-then-not-waits-clause-nothing
+returns-then-not-waits-clause-nothing g c = λ same. inl (sym c.waits.ensures ∙ c.if-not-waits.true)
+
+pub returns-else-branch-clause-nothing : goal.returns-else-branch-clause-nothing
+returns-else-branch-clause-nothing g c = λ same. inr (c.in_ok-told.ensures.none c.if-branch.false)
+
+pub returns-then-branch-clause-moved : goal.returns-then-branch-clause-moved
+returns-then-branch-clause-moved g c = λ same. let told = c.in_ok-told.ensures.told c.if-branch.true in (told.0, told.2)
+
+pub returns-then-not-take_home_lead-clause-busy : goal.returns-then-not-take_home_lead-clause-busy
+returns-then-not-take_home_lead-clause-busy g c =
+    λ same.
+    let f = c.take_home_lead.ensures.found c.if-not-take_home_lead.true in
+    let number : c.link-link.result ≡ link_no (suc c.args.lead.now.number) c.args.lead.now.number c.args.to.0 =
+    c.link-link.ensures.number ∙ ap (λ (k : ℕ). link_no k c.args.lead.now.number c.args.to.0) (add-one c.args.lead.now.number)
+    in
+    (refl, f.0, f.1, f.2 ∙ (λ i. (word_at (number i), number_in f.0)))

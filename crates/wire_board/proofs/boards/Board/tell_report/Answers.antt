@@ -28,5 +28,5 @@ give_back-requires-clause-holds g c =
       refl,
       subst (λ (i : ℕ). CarriesLink number_of (HasBeenLed stands about.failures.value.items about.done.value.items (standing_parts about.machines about.opening.value) about.machines) i (Node (at_rest member)) t.queue (Node (at_rest after)) c.tell_first-told.new.queue) (sym c.link-link.ensures.number)
           (carries_report stands about.failures.value.items about.done.value.items (standing_parts about.machines about.opening.value) about.machines member after refl refl t.queue c.tell_first-told.new.queue (member.peers - 1) last
-          (subst (λ (l : LinkView). HasToldFirst stands member.machine l.messages c.tell_first-told.new.queue.messages after.machine) (sym is) c.tell_first-told.ensures)),
+          (subst (λ (l : LinkView). HasToldFirst stands member.machine l.messages c.tell_first-told.new.queue.messages after.machine) (sym is) c.tell_first-told.ensures.both)),
     )
