@@ -28,7 +28,8 @@ pub enum Drawn {
 }
 
 impl<M: SavingMachine> Board<M> {
-    /// Draws the next ticket and makes the update of a ready scope under it. `Late` comes only where another seat drew the ticket first, and
+    /// Draws the next ticket and makes the update of a ready scope under it. `Late` comes only
+    /// where another seat drew the ticket first, and
     /// `Spent` only where none is left. `NoMemory` after the draw leaves a ticket whose update isn't made: the seat makes no step more.
     pub fn draw(
         &self,
@@ -38,15 +39,23 @@ impl<M: SavingMachine> Board<M> {
     ) -> Result<Drawn, NoMemory>
         requires table { place.old.seat.table_id ≡ self.now.table.table.shared.table_id }
         requires can { CanUpdate M.stands member.old.machine scope }
-        requires free { IsFree M.stands self.now.table.table.shared.key.about.failures.value.items self.now.table.table.shared.key.about.done.value.items member.old.machine member.old.number }
+        requires free { IsFree M.stands self.now.table.table.shared.key.about.failures.value.items
+            self.now.table.table.shared.key.about.done.value.items
+            member.old.machine member.old.number }
         requires sits { Sits M.stands member.old place.old.seat.me }
         ensures table { place.new.seat.table_id ≡ place.old.seat.table_id }
         ensures sits { OnOk result (Sits M.stands member.new place.new.seat.me) }
-        ensures same { (member.new.number ≡ member.old.number) × (member.new.peers ≡ member.old.peers) }
-        ensures made { IfOk result (λ drawn. (t : ℕ) → drawn ≡ Drawn.Made t → HasDone M.stands member.old.machine (Update scope t) member.new.machine × (place.new.seat.me.0.found ≡ (word_at self.now.table.many, t))) }
-        ensures late { IfOk result (λ drawn. drawn ≡ Drawn.Late → member.new.machine ≡ member.old.machine) }
-        ensures spent { IfOk result (λ drawn. drawn ≡ Drawn.Spent → (member.new.machine ≡ member.old.machine)
-            × (next : ℕ) × (self.now.table.top ≤ next) × (place.new.seat.me.0.found ≡ (word_at self.now.table.many, next))) }
+        ensures same { (member.new.number ≡ member.old.number) ×
+            (member.new.peers ≡ member.old.peers) }
+        ensures made { IfOk result (λ drawn. (t : ℕ) → drawn ≡ Drawn.Made t →
+            HasDone M.stands member.old.machine (Update scope t) member.new.machine ×
+            (place.new.seat.me.0.found ≡ (word_at self.now.table.many, t))) }
+        ensures late { IfOk result (λ drawn. drawn ≡ Drawn.Late →
+            member.new.machine ≡ member.old.machine) }
+        ensures spent { IfOk result (λ drawn. drawn ≡ Drawn.Spent →
+            (member.new.machine ≡ member.old.machine)
+            × (next : ℕ) × (self.now.table.top ≤ next) ×
+            (place.new.seat.me.0.found ≡ (word_at self.now.table.many, next))) }
     {
         let ticket = self.table.next_ticket(place);
         if ticket >= self.table.top() {
@@ -76,7 +85,8 @@ impl<M: SavingMachine> Board<M> {
 }
 
 impl<M: EagerMachine> Board<M> {
-    /// Draws the next ticket and makes the update at once of a vertex under it. The answers are those of `draw`.
+    /// Draws the next ticket and makes the update at once of a vertex under it. The answers are
+    /// those of `draw`.
     pub fn draw_at_once(
         &self,
         member: &mut Member<M>,
@@ -85,15 +95,23 @@ impl<M: EagerMachine> Board<M> {
     ) -> Result<Drawn, NoMemory>
         requires table { place.old.seat.table_id ≡ self.now.table.table.shared.table_id }
         requires can { CanBeginAtOnce M.stands member.old.machine v.0 }
-        requires free { IsFree M.stands self.now.table.table.shared.key.about.failures.value.items self.now.table.table.shared.key.about.done.value.items member.old.machine member.old.number }
+        requires free { IsFree M.stands self.now.table.table.shared.key.about.failures.value.items
+            self.now.table.table.shared.key.about.done.value.items
+            member.old.machine member.old.number }
         requires sits { Sits M.stands member.old place.old.seat.me }
         ensures table { place.new.seat.table_id ≡ place.old.seat.table_id }
         ensures sits { OnOk result (Sits M.stands member.new place.new.seat.me) }
-        ensures same { (member.new.number ≡ member.old.number) × (member.new.peers ≡ member.old.peers) }
-        ensures made { IfOk result (λ drawn. (t : ℕ) → drawn ≡ Drawn.Made t → HasUpdatedAtOnce M.stands member.old.machine v.0 t member.new.machine × (place.new.seat.me.0.found ≡ (word_at self.now.table.many, t))) }
-        ensures late { IfOk result (λ drawn. drawn ≡ Drawn.Late → member.new.machine ≡ member.old.machine) }
-        ensures spent { IfOk result (λ drawn. drawn ≡ Drawn.Spent → (member.new.machine ≡ member.old.machine)
-            × (next : ℕ) × (self.now.table.top ≤ next) × (place.new.seat.me.0.found ≡ (word_at self.now.table.many, next))) }
+        ensures same { (member.new.number ≡ member.old.number) ×
+            (member.new.peers ≡ member.old.peers) }
+        ensures made { IfOk result (λ drawn. (t : ℕ) → drawn ≡ Drawn.Made t →
+            HasUpdatedAtOnce M.stands member.old.machine v.0 t member.new.machine ×
+            (place.new.seat.me.0.found ≡ (word_at self.now.table.many, t))) }
+        ensures late { IfOk result (λ drawn. drawn ≡ Drawn.Late →
+            member.new.machine ≡ member.old.machine) }
+        ensures spent { IfOk result (λ drawn. drawn ≡ Drawn.Spent →
+            (member.new.machine ≡ member.old.machine)
+            × (next : ℕ) × (self.now.table.top ≤ next) ×
+            (place.new.seat.me.0.found ≡ (word_at self.now.table.many, next))) }
     {
         let ticket = self.table.next_ticket(place);
         if ticket >= self.table.top() {

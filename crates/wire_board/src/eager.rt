@@ -7,7 +7,8 @@ ghost use Rattle.wire_board.specs.Standings.{CanBeginAtOnce};
 use cluster_step::clusters::SavingMachine;
 use gl_base::{NoMemory, Vertex};
 
-/// A machine whose update at once is looked for before its ticket is drawn, since a ticket can't be given back.
+/// A machine whose update at once is looked for before its ticket is drawn, since a ticket can't be
+/// given back.
 pub trait EagerMachine: SavingMachine {
     /// A vertex that may be updated at once now: the one that the machine looks at.
     fn next_at_once(&mut self) -> Option<Vertex>

@@ -20,7 +20,8 @@ impl<M: SavingMachine> Board<M> {
         requires table { place.old.seat.table_id ≡ self.now.table.table.shared.table_id }
         requires sits { (others : List (Seated M)) × Leads lead.old others place.old.seat.me }
         ensures table { place.new.seat.table_id ≡ place.old.seat.table_id }
-        ensures sits { (others : List (Seated M)) → Leads lead.old others place.old.seat.me → Leads lead.new others place.new.seat.me }
+        ensures sits { (others : List (Seated M)) → Leads lead.old others place.old.seat.me →
+            Leads lead.new others place.new.seat.me }
         ensures number { lead.new.number ≡ lead.old.number }
         ensures not_now { IsErrOf result Refused.NotNow → MayNotBegin lead.old.coordinator }
         ensures no_memory { IsErrOf result Refused.NoMemory → MayLeadBegin lead.old.coordinator }
@@ -39,7 +40,8 @@ impl<M: SavingMachine> Board<M> {
         requires table { place.old.seat.table_id ≡ self.now.table.table.shared.table_id }
         requires sits { (others : List (Seated M)) × Leads lead.old others place.old.seat.me }
         ensures table { place.new.seat.table_id ≡ place.old.seat.table_id }
-        ensures sits { (others : List (Seated M)) → Leads lead.old others place.old.seat.me → Leads lead.new others place.new.seat.me }
+        ensures sits { (others : List (Seated M)) → Leads lead.old others place.old.seat.me →
+            Leads lead.new others place.new.seat.me }
         ensures number { lead.new.number ≡ lead.old.number }
         ensures not_now { IsErrOf result Refused.NotNow → MayNotPutStep lead.old.coordinator }
         ensures no_memory { IsErrOf result Refused.NoMemory → MayPutStep lead.old.coordinator }
@@ -58,7 +60,8 @@ impl<M: SavingMachine> Board<M> {
         requires table { place.old.seat.table_id ≡ self.now.table.table.shared.table_id }
         requires sits { (others : List (Seated M)) × Leads lead.old others place.old.seat.me }
         ensures table { place.new.seat.table_id ≡ place.old.seat.table_id }
-        ensures sits { (others : List (Seated M)) → Leads lead.old others place.old.seat.me → Leads lead.new others place.new.seat.me }
+        ensures sits { (others : List (Seated M)) → Leads lead.old others place.old.seat.me →
+            Leads lead.new others place.new.seat.me }
         ensures number { lead.new.number ≡ lead.old.number }
         ensures not_now { IsErrOf result Refused.NotNow → MayNotPutWave lead.old.coordinator }
         ensures no_memory { IsErrOf result Refused.NoMemory → MayPutWave lead.old.coordinator }
@@ -75,7 +78,8 @@ impl<M: SavingMachine> Board<M> {
         requires ready { IsReadyToRecord lead.old.coordinator number }
         requires sits { (others : List (Seated M)) × Leads lead.old others place.old.seat.me }
         ensures table { place.new.seat.table_id ≡ place.old.seat.table_id }
-        ensures sits { (others : List (Seated M)) → Leads lead.old others place.old.seat.me → Leads lead.new others place.new.seat.me }
+        ensures sits { (others : List (Seated M)) → Leads lead.old others place.old.seat.me →
+            Leads lead.new others place.new.seat.me }
         ensures number { lead.new.number ≡ lead.old.number }
     {
         lead.coordinator.recorded(number);

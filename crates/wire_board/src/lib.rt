@@ -1,4 +1,5 @@
-//! A board: the machines of a cluster on threads of their own, with links and tickets that they share.
+//! A board: the machines of a cluster on threads of their own, with links and tickets that they
+//! share.
 #![tactic(auto)]
 
 mod boards;

@@ -47,8 +47,9 @@ pub enum Told {
 }
 
 impl<M: SavingMachine> Board<M> {
-    /// Hears all that another machine has put on the link to this one. `Empty` comes where nothing is on the link, and `Busy` only where
-    /// another seat has it. For want of memory what is not heard yet stays on the link.
+    /// Hears all that another machine has put on the link to this one. `Empty` comes where nothing
+    /// is on the link, and `Busy` only where another seat has it. For want of memory what is not
+    /// heard yet stays on the link.
     pub fn hear(
         &self,
         alloc: Global,
@@ -57,18 +58,28 @@ impl<M: SavingMachine> Board<M> {
         from: MachineNo,
     ) -> Result<Heard, NoMemory>
         requires table { place.old.seat.table_id ≡ self.now.table.table.shared.table_id }
-        requires links { (member.old.peers * member.old.peers ≡ self.now.table.many) × (member.old.peers < 2 ^ 16) }
-        requires from { (suc from.0 < member.old.peers) × (suc member.old.number < member.old.peers) }
+        requires links { (member.old.peers * member.old.peers ≡ self.now.table.many) ×
+            (member.old.peers < 2 ^ 16) }
+        requires from { (suc from.0 < member.old.peers) ×
+            (suc member.old.number < member.old.peers) }
         requires sits { Sits M.stands member.old place.old.seat.me }
         ensures table { place.new.seat.table_id ≡ place.old.seat.table_id }
         ensures sits { Sits M.stands member.new place.new.seat.me }
-        ensures same { (member.new.number ≡ member.old.number) × (member.new.peers ≡ member.old.peers) }
-        ensures applied { IfOk result (λ how. how ≡ Heard.Applied → (heard : List MessageView) × (heard ≢ []) × CanHear M.stands member.old.machine from.0 member.old.number heard
-            × HasHeardAll M.stands member.old.machine from.0 member.old.number heard [] member.new.machine) }
-        ensures empty { IfOk result (λ how. how ≡ Heard.Empty → (member.new.machine ≡ member.old.machine)
-            × (word : LinkWord) × (word ≢ Out) × (place.new.seat.me.0.found ≡ (word_at (link_no member.old.peers from.0 member.old.number), number_in word))) }
-        ensures busy { IfOk result (λ how. how ≡ Heard.Busy → (member.new.machine ≡ member.old.machine)
-            × (place.new.seat.me.0.found ≡ (word_at (link_no member.old.peers from.0 member.old.number), number_in Out))) }
+        ensures same { (member.new.number ≡ member.old.number) ×
+            (member.new.peers ≡ member.old.peers) }
+        ensures applied { IfOk result (λ how. how ≡ Heard.Applied → (heard : List MessageView) ×
+            (heard ≢ []) × CanHear M.stands member.old.machine from.0 member.old.number heard
+            × HasHeardAll M.stands member.old.machine from.0 member.old.number heard
+            [] member.new.machine) }
+        ensures empty { IfOk result (λ how. how ≡ Heard.Empty →
+            (member.new.machine ≡ member.old.machine)
+            × (word : LinkWord) × (word ≢ Out) ×
+            (place.new.seat.me.0.found ≡
+            (word_at (link_no member.old.peers from.0 member.old.number), number_in word))) }
+        ensures busy { IfOk result (λ how. how ≡ Heard.Busy →
+            (member.new.machine ≡ member.old.machine)
+            × (place.new.seat.me.0.found ≡
+            (word_at (link_no member.old.peers from.0 member.old.number), number_in Out))) }
     {
         let link = self.link(from.0 as usize, member.number, member.peers);
         match self.take_laden(member, place, link) {
@@ -88,15 +99,21 @@ impl<M: SavingMachine> Board<M> {
         link: usize,
     ) -> Result<Heard, NoMemory>
         requires table { place.old.seat.table_id ≡ self.now.table.table.shared.table_id }
-        requires link { (link < self.now.table.many) × (link ≡ link_no member.old.peers from.0 member.old.number) × (suc from.0 < member.old.peers) }
+        requires link { (link < self.now.table.many) ×
+            (link ≡ link_no member.old.peers from.0 member.old.number) ×
+            (suc from.0 < member.old.peers) }
         requires holds { HasTaken M.stands member.old link place.old.seat.me }
         ensures table { place.new.seat.table_id ≡ place.old.seat.table_id }
         ensures sits { Sits M.stands member.new place.new.seat.me }
-        ensures same { (member.new.number ≡ member.old.number) × (member.new.peers ≡ member.old.peers) }
+        ensures same { (member.new.number ≡ member.old.number) ×
+            (member.new.peers ≡ member.old.peers) }
         ensures found { place.new.seat.me.0.found ≡ place.old.seat.me.0.found }
-        ensures applied { IfOk result (λ how. how ≡ Heard.Applied → (heard : List MessageView) × (heard ≢ []) × CanHear M.stands member.old.machine from.0 member.old.number heard
-            × HasHeardAll M.stands member.old.machine from.0 member.old.number heard [] member.new.machine) }
-        ensures empty { IfOk result (λ how. how ≡ Heard.Empty → member.new.machine ≡ member.old.machine) }
+        ensures applied { IfOk result (λ how. how ≡ Heard.Applied → (heard : List MessageView) ×
+            (heard ≢ []) × CanHear M.stands member.old.machine from.0 member.old.number heard
+            × HasHeardAll M.stands member.old.machine from.0 member.old.number heard
+            [] member.new.machine) }
+        ensures empty { IfOk result (λ how. how ≡ Heard.Empty →
+            member.new.machine ≡ member.old.machine) }
         ensures home { IfOk result (λ how. how ≢ Heard.Busy) }
     {
         let mut queue = self.table.exchange(place, link, Link::new(alloc));
@@ -110,8 +127,8 @@ impl<M: SavingMachine> Board<M> {
         Ok(Heard::Applied)
     }
 
-    /// Tells another machine all that waits for it. `Nothing` comes exactly where nothing waits. For want of memory what is not told yet
-    /// waits still.
+    /// Tells another machine all that waits for it. `Nothing` comes exactly where nothing waits.
+    /// For want of memory what is not told yet waits still.
     pub fn tell(
         &self,
         alloc: Global,
@@ -120,17 +137,28 @@ impl<M: SavingMachine> Board<M> {
         to: MachineNo,
     ) -> Result<Told, NoMemory>
         requires table { place.old.seat.table_id ≡ self.now.table.table.shared.table_id }
-        requires links { (member.old.peers * member.old.peers ≡ self.now.table.many) × (member.old.peers < 2 ^ 16) }
+        requires links { (member.old.peers * member.old.peers ≡ self.now.table.many) ×
+            (member.old.peers < 2 ^ 16) }
         requires to { (suc to.0 < member.old.peers) × (suc member.old.number < member.old.peers) }
         requires sits { Sits M.stands member.old place.old.seat.me }
         ensures table { place.new.seat.table_id ≡ place.old.seat.table_id }
         ensures sits { Sits M.stands member.new place.new.seat.me }
-        ensures same { (member.new.number ≡ member.old.number) × (member.new.peers ≡ member.old.peers) }
-        ensures moved { IfOk result (λ how. how ≡ Told.Moved → (told : List MessageView) × OfEach M.stands member.old.machine (HasToldAll M.stands to.0 told member.new.machine)
-            × OfEach M.stands member.old.machine (λ st a m. (m.part.out to.0 ≡ map message_read told) × (m.part.out to.0 ≢ []))) }
-        ensures nothing { IfOk result (λ how. how ≡ Told.Nothing → (member.new.machine ≡ member.old.machine) × OfEach M.stands member.old.machine (λ st a m. m.part.out to.0 ≡ [])) }
-        ensures busy { IfOk result (λ how. how ≡ Told.Busy → (member.new.machine ≡ member.old.machine)
-            × (word : LinkWord) × (word ≢ Bare) × (place.new.seat.me.0.found ≡ (word_at (link_no member.old.peers member.old.number to.0), number_in word))) }
+        ensures same { (member.new.number ≡ member.old.number) ×
+            (member.new.peers ≡ member.old.peers) }
+        ensures moved { IfOk result (λ how. how ≡ Told.Moved → (told : List MessageView) ×
+            OfEach M.stands member.old.machine (HasToldAll M.stands to.0 told member.new.machine)
+            × OfEach M.stands member.old.machine (λ st a m.
+            (m.part.out to.0 ≡ map message_read told) × (m.part.out to.0 ≢ []))) }
+        ensures nothing { IfOk result (λ how. how ≡ Told.Nothing →
+            (member.new.machine ≡ member.old.machine) ×
+            OfEach M.stands member.old.machine (λ st a m. m.part.out to.0 ≡ [])) }
+        ensures busy { IfOk result (λ how. how ≡ Told.Busy →
+            (member.new.machine ≡ member.old.machine)
+            × (word : LinkWord) × (word ≢ Bare) ×
+            (place.new.seat.me.0.found ≡ (
+              word_at (link_no member.old.peers member.old.number to.0),
+              number_in word,
+            ))) }
     {
         if !member.machine.waits(to) {
             return Ok(Told::Nothing);
@@ -146,7 +174,8 @@ impl<M: SavingMachine> Board<M> {
         Ok(Told::Moved)
     }
 
-    /// Hears the first call that the coordinator has put on the link. The machine has reached the count of no failure.
+    /// Hears the first call that the coordinator has put on the link. The machine has reached the
+    /// count of no failure.
     pub fn hear_call(
         &self,
         alloc: Global,
@@ -154,18 +183,33 @@ impl<M: SavingMachine> Board<M> {
         place: &mut Place<Seated<M>, Link>,
     ) -> Result<Heard, NoMemory>
         requires table { place.old.seat.table_id ≡ self.now.table.table.shared.table_id }
-        requires links { (member.old.peers * member.old.peers ≡ self.now.table.many) × (member.old.peers < 2 ^ 16) }
+        requires links { (member.old.peers * member.old.peers ≡ self.now.table.many) ×
+            (member.old.peers < 2 ^ 16) }
         requires inside { suc member.old.number < member.old.peers }
-        requires free { IsFree M.stands self.now.table.table.shared.key.about.failures.value.items self.now.table.table.shared.key.about.done.value.items member.old.machine member.old.number }
+        requires free { IsFree M.stands self.now.table.table.shared.key.about.failures.value.items
+            self.now.table.table.shared.key.about.done.value.items
+            member.old.machine member.old.number }
         requires sits { Sits M.stands member.old place.old.seat.me }
         ensures table { place.new.seat.table_id ≡ place.old.seat.table_id }
         ensures sits { Sits M.stands member.new place.new.seat.me }
-        ensures same { (member.new.number ≡ member.old.number) × (member.new.peers ≡ member.old.peers) }
-        ensures applied { IfOk result (λ how. how ≡ Heard.Applied → (message : Message) × MayHearCall M.stands member.old.machine message × HasHeard M.stands member.old.machine message member.new.machine) }
-        ensures empty { IfOk result (λ how. how ≡ Heard.Empty → (member.new.machine ≡ member.old.machine)
-            × (word : LinkWord) × (word ≢ Out) × (place.new.seat.me.0.found ≡ (word_at (link_no member.old.peers (member.old.peers - 1) member.old.number), number_in word))) }
-        ensures busy { IfOk result (λ how. how ≡ Heard.Busy → (member.new.machine ≡ member.old.machine)
-            × (place.new.seat.me.0.found ≡ (word_at (link_no member.old.peers (member.old.peers - 1) member.old.number), number_in Out))) }
+        ensures same { (member.new.number ≡ member.old.number) ×
+            (member.new.peers ≡ member.old.peers) }
+        ensures applied { IfOk result (λ how. how ≡ Heard.Applied → (message : Message) ×
+            MayHearCall M.stands member.old.machine message ×
+            HasHeard M.stands member.old.machine message member.new.machine) }
+        ensures empty { IfOk result (λ how. how ≡ Heard.Empty →
+            (member.new.machine ≡ member.old.machine)
+            × (word : LinkWord) × (word ≢ Out) ×
+            (place.new.seat.me.0.found ≡ (
+              word_at (link_no member.old.peers (member.old.peers - 1) member.old.number),
+              number_in word,
+            ))) }
+        ensures busy { IfOk result (λ how. how ≡ Heard.Busy →
+            (member.new.machine ≡ member.old.machine)
+            × (place.new.seat.me.0.found ≡ (
+              word_at (link_no member.old.peers (member.old.peers - 1) member.old.number),
+              number_in Out,
+            ))) }
     {
         let link = self.link(member.peers - 1, member.number, member.peers);
         match self.take_laden(member, place, link) {
@@ -191,16 +235,25 @@ impl<M: SavingMachine> Board<M> {
         place: &mut Place<Seated<M>, Link>,
     ) -> Result<Told, NoMemory>
         requires table { place.old.seat.table_id ≡ self.now.table.table.shared.table_id }
-        requires links { (member.old.peers * member.old.peers ≡ self.now.table.many) × (member.old.peers < 2 ^ 16) }
+        requires links { (member.old.peers * member.old.peers ≡ self.now.table.many) ×
+            (member.old.peers < 2 ^ 16) }
         requires inside { suc member.old.number < member.old.peers }
         requires sits { Sits M.stands member.old place.old.seat.me }
         ensures table { place.new.seat.table_id ≡ place.old.seat.table_id }
         ensures sits { Sits M.stands member.new place.new.seat.me }
-        ensures same { (member.new.number ≡ member.old.number) × (member.new.peers ≡ member.old.peers) }
-        ensures moved { IfOk result (λ how. how ≡ Told.Moved → (message : Message) × OfEach M.stands member.old.machine (IsReporting M.stands message member.new.machine)) }
-        ensures nothing { IfOk result (λ how. how ≡ Told.Nothing → OfEach M.stands member.old.machine (λ st a m. HasNext m.out → ⊥)) }
-        ensures busy { IfOk result (λ how. how ≡ Told.Busy → (member.new.machine ≡ member.old.machine)
-            × (word : LinkWord) × (word ≢ Bare) × (place.new.seat.me.0.found ≡ (word_at (link_no member.old.peers member.old.number (member.old.peers - 1)), number_in word))) }
+        ensures same { (member.new.number ≡ member.old.number) ×
+            (member.new.peers ≡ member.old.peers) }
+        ensures moved { IfOk result (λ how. how ≡ Told.Moved → (message : Message) ×
+            OfEach M.stands member.old.machine (IsReporting M.stands message member.new.machine)) }
+        ensures nothing { IfOk result (λ how. how ≡ Told.Nothing →
+            OfEach M.stands member.old.machine (λ st a m. HasNext m.out → ⊥)) }
+        ensures busy { IfOk result (λ how. how ≡ Told.Busy →
+            (member.new.machine ≡ member.old.machine)
+            × (word : LinkWord) × (word ≢ Bare) ×
+            (place.new.seat.me.0.found ≡ (
+              word_at (link_no member.old.peers member.old.number (member.old.peers - 1)),
+              number_in word,
+            ))) }
     {
         if !member.machine.has_report() {
             return Ok(Told::Nothing);
@@ -219,7 +272,8 @@ impl<M: SavingMachine> Board<M> {
         }
     }
 
-    /// Takes a link on which something may be, and returns the word that it found. The seat has the link where that is `Laden`.
+    /// Takes a link on which something may be, and returns the word that it found. The seat has the
+    /// link where that is `Laden`.
     fn take_laden(
         &self,
         member: &Member<M>,
@@ -249,7 +303,8 @@ impl<M: SavingMachine> Board<M> {
         ensures table { place.new.seat.table_id ≡ place.old.seat.table_id }
         ensures taken { result ≡ true → HasTaken M.stands member.now link place.new.seat.me }
         ensures missed { result ≡ false → Sits M.stands member.now place.new.seat.me }
-        ensures found { result ≡ false → (word : LinkWord) × (word ≢ Bare) × (place.new.seat.me.0.found ≡ (word_at link, number_in word)) }
+        ensures found { result ≡ false → (word : LinkWord) × (word ≢ Bare) ×
+            (place.new.seat.me.0.found ≡ (word_at link, number_in word)) }
     {
         let found = self.take(member, place, link, LinkWord::Bare);
         match found {
@@ -259,7 +314,8 @@ impl<M: SavingMachine> Board<M> {
         }
     }
 
-    /// Takes a link on which something was, also where it is gone meanwhile, and says whether it has.
+    /// Takes a link on which something was, also where it is gone meanwhile, and says whether it
+    /// has.
     fn take_laden_or_bare(
         &self,
         member: &Member<M>,
@@ -272,7 +328,8 @@ impl<M: SavingMachine> Board<M> {
         ensures table { place.new.seat.table_id ≡ place.old.seat.table_id }
         ensures taken { result ≡ true → HasTaken M.stands member.now link place.new.seat.me }
         ensures missed { result ≡ false → Sits M.stands member.now place.new.seat.me }
-        ensures found { result ≡ false → (word : LinkWord) × (word ≢ Bare) × (place.new.seat.me.0.found ≡ (word_at link, number_in word)) }
+        ensures found { result ≡ false → (word : LinkWord) × (word ≢ Bare) ×
+            (place.new.seat.me.0.found ≡ (word_at link, number_in word)) }
     {
         match self.take(member, place, link, LinkWord::Laden) {
             LinkWord::Laden => true,
@@ -284,8 +341,8 @@ impl<M: SavingMachine> Board<M> {
         }
     }
 
-    /// Takes a link whose word is still the expected one, and returns the word that it found. The seat has the link where that is the
-    /// expected one.
+    /// Takes a link whose word is still the expected one, and returns the word that it found. The
+    /// seat has the link where that is the expected one.
     fn take(
         &self,
         member: &Member<M>,
@@ -315,9 +372,16 @@ impl<M: SavingMachine> Board<M> {
     )
         requires table { place.old.seat.table_id ≡ self.now.table.table.shared.table_id }
         requires link { link < self.now.table.many }
-        requires holds { (old : Member M) × (q : LinkView) × (r : LinkView) × HoldsLink place.old.seat.me (Node (at_rest old)) [] link q r × (member.now.number ≡ old.number)
-            × CarriesLink number_of (HasBeenLed M.stands self.now.table.table.shared.key.about.failures.value.items self.now.table.table.shared.key.about.done.value.items
-            (standing_parts self.now.table.table.shared.key.about.machines self.now.table.table.shared.key.about.opening.value) self.now.table.table.shared.key.about.machines) link (Node (at_rest old)) q (Node (at_rest member.now)) queue }
+        requires holds { (old : Member M) × (q : LinkView) × (r : LinkView) ×
+            HoldsLink place.old.seat.me (Node (at_rest old)) [] link q r ×
+            (member.now.number ≡ old.number)
+            × CarriesLink number_of
+            (HasBeenLed M.stands self.now.table.table.shared.key.about.failures.value.items
+            self.now.table.table.shared.key.about.done.value.items
+            (standing_parts self.now.table.table.shared.key.about.machines
+            self.now.table.table.shared.key.about.opening.value)
+            self.now.table.table.shared.key.about.machines) link (Node (at_rest old)) q
+            (Node (at_rest member.now)) queue }
         ensures table { place.new.seat.table_id ≡ place.old.seat.table_id }
         ensures sits { Sits M.stands member.now place.new.seat.me }
         ensures found { place.new.seat.me.0.found ≡ place.old.seat.me.0.found }

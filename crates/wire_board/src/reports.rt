@@ -8,15 +8,20 @@ ghost use Rattle.wire_board.specs.Seats.{HasHeardReport, HasToldCall};
 use cluster_step::clusters::{Coordinator, Link};
 use gl_base::{MachineNo, NoMemory};
 
-/// Puts the first call for a machine on the link, and says whether there was one. For want of memory it stays.
+/// Puts the first call for a machine on the link, and says whether there was one. For want of
+/// memory it stays.
 pub(crate) fn tell_one(
     coordinator: &mut Coordinator,
     queue: &mut Link,
     to: MachineNo,
 ) -> Result<bool, NoMemory>
-    ensures both { HasToldCall coordinator.old to.0 queue.old.messages queue.new.messages coordinator.new }
-    ensures told { IfOk result (λ some. some ≡ true → (message : Message) × (queue.new.messages ≡ queue.old.messages ++ message_view message ∷ []) × HasHandedOver coordinator.old coordinator.new to.0 (Some message)) }
-    ensures none { IfOk result (λ some. some ≡ false → HasHandedOver coordinator.old coordinator.new to.0 None) }
+    ensures both { HasToldCall coordinator.old to.0 queue.old.messages
+        queue.new.messages coordinator.new }
+    ensures told { IfOk result (λ some. some ≡ true → (message : Message) ×
+        (queue.new.messages ≡ queue.old.messages ++ message_view message ∷ []) ×
+        HasHandedOver coordinator.old coordinator.new to.0 (Some message)) }
+    ensures none { IfOk result (λ some. some ≡ false →
+        HasHandedOver coordinator.old coordinator.new to.0 None) }
 {
     queue.reserve()?;
     match coordinator.outbox_take(to) {
@@ -30,9 +35,14 @@ pub(crate) fn tell_one(
 
 /// Takes the first report of a machine off the link, and says whether there was one.
 pub(crate) fn hear_one(coordinator: &mut Coordinator, queue: &mut Link, from: MachineNo) -> bool
-    requires { (message : Message) (rest : List MessageView) → queue.old.messages ≡ message_view message ∷ rest → MayReport coordinator.old from.0 (message_view message) }
-    ensures both { HasHeardReport coordinator.old from.0 queue.old.messages queue.new.messages coordinator.new }
-    ensures heard { result ≡ true → (message : Message) × (queue.old.messages ≡ message_view message ∷ queue.new.messages) × HasTakenReport coordinator.old coordinator.new from.0 (message_view message) }
+    requires { (message : Message) (rest : List MessageView) →
+        queue.old.messages ≡ message_view message ∷ rest →
+        MayReport coordinator.old from.0 (message_view message) }
+    ensures both { HasHeardReport coordinator.old from.0 queue.old.messages
+        queue.new.messages coordinator.new }
+    ensures heard { result ≡ true → (message : Message) ×
+        (queue.old.messages ≡ message_view message ∷ queue.new.messages) ×
+        HasTakenReport coordinator.old coordinator.new from.0 (message_view message) }
     ensures none { result ≡ false → coordinator.new ≡ coordinator.old }
 {
     match queue.take() {

@@ -34,16 +34,24 @@ impl<M: SavingMachine> Board<M> {
         to: MachineNo,
     ) -> Result<Told, NoMemory>
         requires table { place.old.seat.table_id ≡ self.now.table.table.shared.table_id }
-        requires links { (suc lead.old.number * suc lead.old.number ≡ self.now.table.many) × (suc lead.old.number < 2 ^ 16) }
+        requires links { (suc lead.old.number * suc lead.old.number ≡ self.now.table.many) ×
+            (suc lead.old.number < 2 ^ 16) }
         requires to { to.0 < lead.old.number }
         requires sits { (others : List (Seated M)) × Leads lead.old others place.old.seat.me }
         ensures table { place.new.seat.table_id ≡ place.old.seat.table_id }
-        ensures sits { (others : List (Seated M)) → Leads lead.old others place.old.seat.me → Leads lead.new others place.new.seat.me }
+        ensures sits { (others : List (Seated M)) → Leads lead.old others place.old.seat.me →
+            Leads lead.new others place.new.seat.me }
         ensures number { lead.new.number ≡ lead.old.number }
-        ensures moved { IfOk result (λ how. how ≡ Told.Moved → (message : Message) × HasHandedOver lead.old.coordinator lead.new.coordinator to.0 (Some message)) }
-        ensures nothing { IfOk result (λ how. how ≡ Told.Nothing → (has_waiting (slice_index_or lead.old.coordinator.out.machines to.0 no_outbox) ≡ false) ⊎ HasHandedOver lead.old.coordinator lead.new.coordinator to.0 None) }
-        ensures busy { IfOk result (λ how. how ≡ Told.Busy → (lead.new.coordinator ≡ lead.old.coordinator)
-            × (word : LinkWord) × (word ≢ Laden) × (place.new.seat.me.0.found ≡ (word_at (link_no (suc lead.old.number) lead.old.number to.0), number_in word))) }
+        ensures moved { IfOk result (λ how. how ≡ Told.Moved → (message : Message) ×
+            HasHandedOver lead.old.coordinator lead.new.coordinator to.0 (Some message)) }
+        ensures nothing { IfOk result (λ how. how ≡ Told.Nothing →
+            (has_waiting (slice_index_or lead.old.coordinator.out.machines to.0 no_outbox) ≡
+            false) ⊎ HasHandedOver lead.old.coordinator lead.new.coordinator to.0 None) }
+        ensures busy { IfOk result (λ how. how ≡ Told.Busy →
+            (lead.new.coordinator ≡ lead.old.coordinator)
+            × (word : LinkWord) × (word ≢ Laden) ×
+            (place.new.seat.me.0.found ≡
+            (word_at (link_no (suc lead.old.number) lead.old.number to.0), number_in word))) }
     {
         if !lead.coordinator.waits(to) {
             return Ok(Told::Nothing);
@@ -62,7 +70,8 @@ impl<M: SavingMachine> Board<M> {
         }
     }
 
-    /// Takes the first report of a machine off the link from it. `Busy` comes only where another seat has the link.
+    /// Takes the first report of a machine off the link from it. `Busy` comes only where another
+    /// seat has the link.
     pub fn hear_report(
         &self,
         alloc: Global,
@@ -71,16 +80,24 @@ impl<M: SavingMachine> Board<M> {
         from: MachineNo,
     ) -> Heard
         requires table { place.old.seat.table_id ≡ self.now.table.table.shared.table_id }
-        requires links { (suc lead.old.number * suc lead.old.number ≡ self.now.table.many) × (suc lead.old.number < 2 ^ 16) }
+        requires links { (suc lead.old.number * suc lead.old.number ≡ self.now.table.many) ×
+            (suc lead.old.number < 2 ^ 16) }
         requires from { from.0 < lead.old.number }
         requires sits { (others : List (Seated M)) × Leads lead.old others place.old.seat.me }
         ensures table { place.new.seat.table_id ≡ place.old.seat.table_id }
-        ensures sits { (others : List (Seated M)) → Leads lead.old others place.old.seat.me → Leads lead.new others place.new.seat.me }
+        ensures sits { (others : List (Seated M)) → Leads lead.old others place.old.seat.me →
+            Leads lead.new others place.new.seat.me }
         ensures number { lead.new.number ≡ lead.old.number }
-        ensures applied { result ≡ Heard.Applied → (message : Message) × MayReport lead.old.coordinator from.0 (message_view message) × HasTakenReport lead.old.coordinator lead.new.coordinator from.0 (message_view message) }
+        ensures applied { result ≡ Heard.Applied → (message : Message) ×
+            MayReport lead.old.coordinator from.0 (message_view message) ×
+            HasTakenReport lead.old.coordinator lead.new.coordinator from.0 (message_view message) }
         ensures empty { result ≡ Heard.Empty → (lead.new.coordinator ≡ lead.old.coordinator)
-            × (word : LinkWord) × (word ≢ Out) × (place.new.seat.me.0.found ≡ (word_at (link_no (suc lead.old.number) from.0 lead.old.number), number_in word)) }
-        ensures busy { result ≡ Heard.Busy → (lead.new.coordinator ≡ lead.old.coordinator) × (place.new.seat.me.0.found ≡ (word_at (link_no (suc lead.old.number) from.0 lead.old.number), number_in Out)) }
+            × (word : LinkWord) × (word ≢ Out) ×
+            (place.new.seat.me.0.found ≡
+            (word_at (link_no (suc lead.old.number) from.0 lead.old.number), number_in word)) }
+        ensures busy { result ≡ Heard.Busy → (lead.new.coordinator ≡ lead.old.coordinator) ×
+            (place.new.seat.me.0.found ≡
+            (word_at (link_no (suc lead.old.number) from.0 lead.old.number), number_in Out)) }
     {
         let link = self.link(from.0 as usize, lead.number, lead.number + 1);
         match self.take_lead(lead, place, link, LinkWord::Laden) {
@@ -105,9 +122,13 @@ impl<M: SavingMachine> Board<M> {
         requires link { link < self.now.table.many }
         requires sits { (others : List (Seated M)) × Leads lead.now others place.old.seat.me }
         ensures table { place.new.seat.table_id ≡ place.old.seat.table_id }
-        ensures taken { result ≡ true → (others : List (Seated M)) → Leads lead.now others place.old.seat.me → HasTakenLead M.stands lead.now others link place.new.seat.me }
-        ensures missed { result ≡ false → (others : List (Seated M)) → Leads lead.now others place.old.seat.me → Leads lead.now others place.new.seat.me }
-        ensures found { result ≡ false → (word : LinkWord) × (word ≢ Laden) × (place.new.seat.me.0.found ≡ (word_at link, number_in word)) }
+        ensures taken { result ≡ true → (others : List (Seated M)) →
+            Leads lead.now others place.old.seat.me →
+            HasTakenLead M.stands lead.now others link place.new.seat.me }
+        ensures missed { result ≡ false → (others : List (Seated M)) →
+            Leads lead.now others place.old.seat.me → Leads lead.now others place.new.seat.me }
+        ensures found { result ≡ false → (word : LinkWord) × (word ≢ Laden) ×
+            (place.new.seat.me.0.found ≡ (word_at link, number_in word)) }
     {
         match self.take_lead(lead, place, link, LinkWord::Bare) {
             LinkWord::Bare => true,
@@ -119,8 +140,8 @@ impl<M: SavingMachine> Board<M> {
         }
     }
 
-    /// Takes a link whose word is still the expected one, and returns the word that it found. The seat has the link where that is the
-    /// expected one.
+    /// Takes a link whose word is still the expected one, and returns the word that it found. The
+    /// seat has the link where that is the expected one.
     fn take_lead(
         &self,
         lead: &Leading,
@@ -132,8 +153,11 @@ impl<M: SavingMachine> Board<M> {
         requires link { (link < self.now.table.many) × (expected ≢ Out) }
         requires sits { (others : List (Seated M)) × Leads lead.now others place.old.seat.me }
         ensures table { place.new.seat.table_id ≡ place.old.seat.table_id }
-        ensures taken { result ≡ expected → (others : List (Seated M)) → Leads lead.now others place.old.seat.me → HasTakenLead M.stands lead.now others link place.new.seat.me }
-        ensures missed { result ≢ expected → (others : List (Seated M)) → Leads lead.now others place.old.seat.me → Leads lead.now others place.new.seat.me }
+        ensures taken { result ≡ expected → (others : List (Seated M)) →
+            Leads lead.now others place.old.seat.me →
+            HasTakenLead M.stands lead.now others link place.new.seat.me }
+        ensures missed { result ≢ expected → (others : List (Seated M)) →
+            Leads lead.now others place.old.seat.me → Leads lead.now others place.new.seat.me }
         ensures found { place.new.seat.me.0.found ≡ (word_at link, number_in result) }
     {
         self.table
@@ -150,12 +174,21 @@ impl<M: SavingMachine> Board<M> {
     )
         requires table { place.old.seat.table_id ≡ self.now.table.table.shared.table_id }
         requires link { link < self.now.table.many }
-        requires holds { (old : Leading) × (others : List (Seated M)) × (q : LinkView) × (r : LinkView) × HoldsLink place.old.seat.me (Lead old) others link q r × (lead.now.number ≡ old.number)
-            × CarriesLink number_of (HasBeenLed M.stands self.now.table.table.shared.key.about.failures.value.items self.now.table.table.shared.key.about.done.value.items
-            (standing_parts self.now.table.table.shared.key.about.machines self.now.table.table.shared.key.about.opening.value) self.now.table.table.shared.key.about.machines) link (Lead old) q (Lead lead.now) queue }
+        requires holds { (old : Leading) × (others : List (Seated M)) × (q : LinkView) ×
+            (r : LinkView) × HoldsLink place.old.seat.me (Lead old) others link q r ×
+            (lead.now.number ≡ old.number)
+            × CarriesLink number_of
+            (HasBeenLed M.stands self.now.table.table.shared.key.about.failures.value.items
+            self.now.table.table.shared.key.about.done.value.items
+            (standing_parts self.now.table.table.shared.key.about.machines
+            self.now.table.table.shared.key.about.opening.value)
+            self.now.table.table.shared.key.about.machines) link (Lead old)
+            q (Lead lead.now) queue }
         ensures table { place.new.seat.table_id ≡ place.old.seat.table_id }
         ensures found { place.new.seat.me.0.found ≡ place.old.seat.me.0.found }
-        ensures sits { (old : Leading) (others : List (Seated M)) (q r : LinkView) → HoldsLink place.old.seat.me (Lead old) others link q r → Leads lead.now others place.new.seat.me }
+        ensures sits { (old : Leading) (others : List (Seated M)) (q r : LinkView) →
+            HoldsLink place.old.seat.me (Lead old) others link q r →
+            Leads lead.now others place.new.seat.me }
     {
         let word = word_of(&queue);
         self.table.exchange(place, link, queue);

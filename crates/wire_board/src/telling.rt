@@ -7,14 +7,17 @@ ghost use Rattle.wire_board.specs.Hearing.{HasToldAll, MessageView};
 use cluster_step::clusters::{Link, SavingMachine};
 use gl_base::{MachineNo, NoMemory};
 
-/// Puts the messages that wait for a machine on the link to it. For want of memory some may be left.
+/// Puts the messages that wait for a machine on the link to it. For want of memory some may be
+/// left.
 pub(crate) fn tell_all<M: SavingMachine>(
     machine: &mut M,
     to: MachineNo,
     queue: &mut Link,
 ) -> Result<(), NoMemory>
-    ensures { (told : List MessageView) × (queue.new.messages ≡ queue.old.messages ++ told) × OfEach M.stands machine.old (HasToldAll M.stands to.0 told machine.new)
-        × OnOk result (OfEach M.stands machine.old (λ st a m. m.part.out to.0 ≡ map message_read told)) }
+    ensures { (told : List MessageView) × (queue.new.messages ≡ queue.old.messages ++ told) ×
+        OfEach M.stands machine.old (HasToldAll M.stands to.0 told machine.new)
+        × OnOk result (OfEach M.stands machine.old (λ st a m.
+        m.part.out to.0 ≡ map message_read told)) }
 {
     for _ in 0..u64::MAX {
         queue.reserve()?;
