@@ -7,7 +7,7 @@ use Rattle.cluster_step.specs.clusters.Clusters.{StandsForSaving}
 use Rattle.wire_board.proofs.Goings.{goes_nowhere}
 use Rattle.wire_board.proofs.Holding.{is_there}
 use Rattle.wire_board.specs.Going.{Cluster, FailureAt, IsSavingClusterOf, Machine, Parts, Setting}
-use Rattle.wire_board.specs.Led.{AreHeld, HasBeenLed, IsLeadOf, IsMachineAt, Lead, LinkView, Node, Seated, Standing, StandsOwing, number_of}
+use Rattle.wire_board.specs.Led.{HoldParts, HasBeenLed, IsLeadOf, IsMachineAt, Lead, LinkView, Node, Seated, Standing, StandsOwing, number_of}
 use Rattle.wire_board.specs.Openings.{AreOpening, length_numbered, nodes, numbered, standing_parts}
 use Rattle.wire_board.specs.Standings.{Nothing}
 
@@ -102,7 +102,7 @@ module _ {M : Type 0} (stands : Setting → ℕ → Machine → M → Type 0) (f
     going = of.going;
   }
 
-  opens_held : AreHeld n (standing_parts n p) (front ++ lead ∷ []) links p.next p.left
+  opens_held : HoldParts n (standing_parts n p) (front ++ lead ∷ []) links p.next p.left
   opens_held = record {
     many = length_numbered (suc n) 0 p.machines.items ∙ is.many;
     count = length_snoc front lead ∙ ap suc front_long;

@@ -26,7 +26,7 @@ use Rattle.call_laws.specs.whole_calls.Following.{FollowJob, has_reached, reache
 use Rattle.wire_board.proofs.Goings.{courses_append, done_stays, follows_append, others_append}
 use Rattle.wire_board.specs.Freeing.{IsFree}
 use Rattle.wire_board.specs.Going.{Cluster, FailureAt, GoesOn, IsSavingClusterOf, IsSnapSetting, Machine, Parts, Setting}
-use Rattle.wire_board.specs.Standings.{AtOnce, CanBeginAtOnce, ComesTo, HasComeTo, IsOwn, Member, Standing, StandsOwing, Update, at_rest}
+use Rattle.wire_board.specs.Standings.{AtOnce, CanBeginAtOnce, WorksTo, HasComeTo, IsOwn, Member, Standing, StandsOwing, Update, at_rest}
 
 own_turn : (c : Cluster) (d : Deed) → IsOwn d → IsInTurn c d
 own_turn c (Admit v) own = tt
@@ -168,13 +168,13 @@ module _ {M : Type 0} (stands : Setting → ℕ → Machine → M → Type 0) (f
     fine : (c.machine a).failed ≡ false
     fine = of.runs a low ∙ awake
 
-    to_now : ComesTo stands z.machine st a (c.machine a)
+    to_now : WorksTo stands z.machine st a (c.machine a)
     to_now = come st a (c.machine a) setting (machine_here (StandsOwing stands) st setting p c of a low x read)
 
   -- It owes nothing.
   pub comes_goes : GoesOn (StandsOwing stands) failures done p (record p { machines = with_item p.machines a (at_rest z) })
   comes_goes st c setting of =
-      let to : ComesTo stands z.machine st a (c.machine a) = to_now st c setting of in
+      let to : WorksTo stands z.machine st a (c.machine a) = to_now st c setting of in
       let events : List law.Event = map (event_of a) to.deeds in
       let later : Cluster = with_machine c a to.after in
       let course : law.IsCourse st c events later = own_course st c a (runs st c setting of) (low st c setting of) to.deeds to.own to.after (fine st c setting of) to.done in
@@ -199,7 +199,7 @@ module _ {M : Type 0} (stands : Setting → ℕ → Machine → M → Type 0) (f
     pub begins_goes : (s : ScopeId) → CanUpdate stands z.machine s
         → GoesOn (StandsOwing stands) failures done p (record p { machines = with_item p.machines a (owing z s p.next); next = suc p.next; left = pred p.left })
     begins_goes s can st c setting of =
-        let to : ComesTo stands z.machine st a (c.machine a) = to_now st c setting of in
+        let to : WorksTo stands z.machine st a (c.machine a) = to_now st c setting of in
         let events : List law.Event = map (event_of a) to.deeds in
         let led : Cluster = with_machine c a to.after in
         let at_a : led.machine a ≡ to.after = set_at-same c.machine a to.after in
@@ -241,7 +241,7 @@ module _ {M : Type 0} (stands : Setting → ℕ → Machine → M → Type 0) (f
     pub begins_at_once_goes : (v : Vertex) → CanBeginAtOnce stands z.machine v.0
         → GoesOn (StandsOwing stands) failures done p (record p { machines = with_item p.machines a (owing_at_once z v p.next); next = suc p.next; left = pred p.left })
     begins_at_once_goes v can st c setting of =
-        let to : ComesTo stands z.machine st a (c.machine a) = to_now st c setting of in
+        let to : WorksTo stands z.machine st a (c.machine a) = to_now st c setting of in
         let events : List law.Event = map (event_of a) to.deeds in
         let led : Cluster = with_machine c a to.after in
         let at_a : led.machine a ≡ to.after = set_at-same c.machine a to.after in

@@ -25,9 +25,9 @@ use Rattle.whole_laws.specs.cluster_whole.Whole.{IsNoRecovery, setting_behind}
 use Rattle.wire_board.proofs.Closing.{stood_so}
 use Rattle.wire_board.proofs.Goings.{done_stays}
 use Rattle.wire_board.proofs.Leads.{lead_is}
-use Rattle.wire_board.specs.Closings.{AreGathered, ArePutTogether, CourseView, IsLaterInAttempt, gathered}
+use Rattle.wire_board.specs.Closings.{AreAllGathered, ArePutTogether, CourseView, IsLaterInAttempt, gathered}
 use Rattle.wire_board.specs.Going.{Cluster, GoesTo, IsSavingClusterOf, IsSnapSetting, Machine, Parts, Setting}
-use Rattle.wire_board.specs.Led.{AreHeld, HasBeenLed, IsMachineAt, Lead, Leading, LinkView, Node, Seated, Standing, StandsOwing, link_between, number_of}
+use Rattle.wire_board.specs.Led.{HoldParts, HasBeenLed, IsMachineAt, Lead, Leading, LinkView, Node, Seated, Standing, StandsOwing, link_between, number_of}
 use Rattle.wire_board.specs.Openings.{AreOpening, standing_parts}
 use Rattle.wire_board.specs.Standings.{Member, at_rest}
 
@@ -47,8 +47,8 @@ passing_setting (e ∷ events) all st = ap (λ (s : Setting). setting_behind s e
 
 -- ---- the parts stand for the cluster to which the board has been led
 
-module _ {M : Type 0} (stands : Setting → ℕ → Machine → M → Type 0) (n : ℕ) (now : Parts (Standing M)) (parts : List (Seated M)) (links : List LinkView) (next left : ℕ) (h : AreHeld n now parts links next left)
-    (lead : Leading) (members : List (Member M)) (all : AreGathered n lead members) (are : (i : ℕ) (x : Seated M) → get_elem? (gathered lead members) i ≡ some x → get_elem? parts (number_of x) ≡ some x)
+module _ {M : Type 0} (stands : Setting → ℕ → Machine → M → Type 0) (n : ℕ) (now : Parts (Standing M)) (parts : List (Seated M)) (links : List LinkView) (next left : ℕ) (h : HoldParts n now parts links next left)
+    (lead : Leading) (members : List (Member M)) (all : AreAllGathered n lead members) (are : (i : ℕ) (x : Seated M) → get_elem? (gathered lead members) i ≡ some x → get_elem? parts (number_of x) ≡ some x)
     (q : Parts M) (to : ArePutTogether n lead members links next left q) where
   same_line : (i j : ℕ) → i < suc n → j < suc n → link_between now.links i j ≡ link_between q.links i j
   same_line i j low_i low_j = some-injective _ _ (sym (h.lines i j low_i low_j) ∙ to.lines i j low_i low_j)
@@ -107,7 +107,7 @@ module _ {M : Type 0} (stands : Setting → ℕ → Machine → M → Type 0) (n
 
 -- What threads have done between a board that was made of a cluster and its closing is a stretch of the same attempt.
 pub threads_go : {M : Type 0} (stands : Setting → ℕ → Machine → M → Type 0) (v : CourseView M) (n : ℕ) (first : List LinkView) (lead : Leading) (members : List (Member M)) (links : List LinkView) (next left : ℕ) (q : Parts M)
-    → AreOpening n v.now first → AreGathered n lead members → Ended number_of (HasBeenLed stands v.failures v.done (standing_parts n v.now) n) (gathered lead members) links next left
+    → AreOpening n v.now first → AreAllGathered n lead members → Ended number_of (HasBeenLed stands v.failures v.done (standing_parts n v.now) n) (gathered lead members) links next left
     → ArePutTogether n lead members links next left q → IsLaterInAttempt stands v (record v { now = q })
 threads_go {M} stands v n first lead members links next left q opening all ended to st o events c is =
     let now : Setting = newest_setting st o events in

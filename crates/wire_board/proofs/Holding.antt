@@ -8,14 +8,14 @@ use lib.ListN.{get_elem?}
 use Rattle.atomic_table.proofs.Lists.{at_set, set_else, set_here}
 use Rattle.cluster_step.specs.clusters.Inner.Writing.{HasLinkBetween, with_link_between}
 use Rattle.wire_board.proofs.Putting.{link_other, link_put, links_apart}
-use Rattle.wire_board.specs.Led.{AreHeld, IsLeadOf, IsMachineAt, Lead, LinkView, Node, Parts, Seated, Standing, link_between, link_no}
+use Rattle.wire_board.specs.Led.{HoldParts, IsLeadOf, IsMachineAt, Lead, LinkView, Node, Parts, Seated, Standing, link_between, link_no}
 
 pub is_there : {A : Type 0} (l : List A) (i : ℕ) (a : A) → get_elem? l i ≡ some a → i < length l
 is_there [] i a e = absurd (some-ne-none a (sym e))
 is_there (x ∷ xs) zero a e = omega arith
 is_there (x ∷ xs) (suc i) a e = let t = is_there xs i a e in omega arith
 
-module _ {M : Type 0} (n : ℕ) (p : Parts (Standing M)) (parts : List (Seated M)) (links : List LinkView) (next left : ℕ) (h : AreHeld n p parts links next left) where
+module _ {M : Type 0} (n : ℕ) (p : Parts (Standing M)) (parts : List (Seated M)) (links : List LinkView) (next left : ℕ) (h : HoldParts n p parts links next left) where
   -- a machine's seat has a machine of the cluster
   pub is_low : (a : ℕ) (x : Standing M) → get_elem? parts a ≡ some (Node x) → a < n
   is_low a x at =
@@ -49,7 +49,7 @@ module _ {M : Type 0} (n : ℕ) (p : Parts (Standing M)) (parts : List (Seated M
         other b (Node x) off is = (is.0, is.1, is.2 ∙ sym (get_or-set_other p.machines.items a b y x off))
         other b (Lead x) off is = is
 
-    pub held_machine : AreHeld n (record p { machines = with_item p.machines a y }) (slice_set parts a (Node y)) links next left
+    pub held_machine : HoldParts n (record p { machines = with_item p.machines a y }) (slice_set parts a (Node y)) links next left
     held_machine = record {
       many = length-set p.machines.items a y ∙ h.many;
       count = length-set parts a (Node y) ∙ h.count;
@@ -108,7 +108,7 @@ module _ {M : Type 0} (n : ℕ) (p : Parts (Standing M)) (parts : List (Seated M
       | inr other ↦ off k m low_k low_m (inl other)
     ]
 
-    pub held_link : AreHeld n new parts (slice_set links here l) next left
+    pub held_link : HoldParts n new parts (slice_set links here l) next left
     held_link = record {
       many = h.many;
       count = h.count;
@@ -122,7 +122,7 @@ module _ {M : Type 0} (n : ℕ) (p : Parts (Standing M)) (parts : List (Seated M
     }
 
   -- a ticket is drawn
-  pub held_ticket : (new_next new_left : ℕ) → AreHeld n (record p { next = new_next; left = new_left }) parts links new_next new_left
+  pub held_ticket : (new_next new_left : ℕ) → HoldParts n (record p { next = new_next; left = new_left }) parts links new_next new_left
   held_ticket new_next new_left = record {
     many = h.many;
     count = h.count;

@@ -21,7 +21,7 @@ use Rattle.wire_board.proofs.Holding.{held_link, is_there}
 use Rattle.wire_board.proofs.Ruling.{have_all, led_on, same_link}
 use Rattle.wire_board.proofs.Singles.{call_told_goes, led_goes, report_heard_goes, stays_goes, stays_led_goes}
 use Rattle.wire_board.specs.Going.{Cluster, FailureAt, Machine, Parts, Setting}
-use Rattle.wire_board.specs.Led.{AreHeld, HasBeenLed, IsLeadOf, IsMachineAt, Lead, Leading, Learns, LinkView, Node, Seated, Standing, StandsOwing, link_between, link_no, number_of}
+use Rattle.wire_board.specs.Led.{HoldParts, HasBeenLed, IsLeadOf, IsMachineAt, Lead, Leading, Learns, LinkView, Node, Seated, Standing, StandsOwing, link_between, link_no, number_of}
 use Rattle.wire.specs.declared.wire_msgs.messages.Message.{Message}
 
 under : (x y : ℕ) → x < y → x < suc y
@@ -30,7 +30,7 @@ under x y less = omega arith
 self_under : (x : ℕ) → x < suc x
 self_under x = omega arith
 
-module _ {M : Type 0} (n : ℕ) (p : Parts (Standing M)) (parts : List (Seated M)) (links : List LinkView) (next left : ℕ) (h : AreHeld n p parts links next left) where
+module _ {M : Type 0} (n : ℕ) (p : Parts (Standing M)) (parts : List (Seated M)) (links : List LinkView) (next left : ℕ) (h : HoldParts n p parts links next left) where
   -- the coordinator is the last part
   pub is_last : (a : ℕ) (x : Leading) → get_elem? parts a ≡ some (Lead x) → a ≡ n
   is_last a x at =
@@ -59,7 +59,7 @@ module _ {M : Type 0} (n : ℕ) (p : Parts (Standing M)) (parts : List (Seated M
         (λ (is : (n ≢ a) × (get_elem? parts n ≡ some z)). absurd (is.0 (sym last)))
         (at_set parts a n (Lead x) z at)
 
-    pub held_lead : (a : ℕ) → a ≡ n → AreHeld n new (slice_set parts a (Lead x)) links next left
+    pub held_lead : (a : ℕ) → a ≡ n → HoldParts n new (slice_set parts a (Lead x)) links next left
     held_lead a last = record {
       many = h.many;
       count = length-set parts a (Lead x) ∙ h.count;

@@ -8,7 +8,7 @@ use Rattle.link_tables.specs.Seats.{HoldsLink, Rests, Sat, saw, view, with_first
 use Rattle.link_tables.specs.declared.words.LinkWord.{LinkWord}
 use Rattle.link_tables.specs.declared.words.LinkWord.TheVariants.{Bare, Laden, Out}
 use Rattle.wire_board.proofs.Seating.{come_nowhere}
-use Rattle.wire_board.specs.Seats.{HasTaken, LinkView, Machine, Member, Node, Seated, Setting, Sits, Standing, at_rest}
+use Rattle.wire_board.specs.Seats.{HasTakenLink, LinkView, Machine, Member, Node, Seated, Setting, Sits, Standing, at_rest}
 use Rattle.wire_board.specs.Led.{Learns}
 use Rattle.wire_board.specs.Standings.{HasComeTo}
 
@@ -40,11 +40,11 @@ module _ {M : Type 0} (stands : Setting → ℕ → Machine → M → Type 0) (m
       record { was = x; rests = rests_changed me me' p (Node x) [] found r is; number = number; peers = peers; come = come }
 
   pub has_taken : (me me' : Sat (Seated M) LinkView) (p : Seated M) (i : ℕ) (q : LinkView) (found : ℕ × ℕ) → Rests me p []
-      → me' ≡ (view (with_first (Node (at_rest member)) me.0.parts) (Some (i, q)) me.0.raised found, (i, q) ∷ []) → Learns stands (Node (at_rest member)) i q → HasTaken stands member i me'
+      → me' ≡ (view (with_first (Node (at_rest member)) me.0.parts) (Some (i, q)) me.0.raised found, (i, q) ∷ []) → Learns stands (Node (at_rest member)) i q → HasTakenLink stands member i me'
   has_taken me me' p i q found r is learns = record { queue = q; holds = holds_taken me me' p (Node (at_rest member)) [] i q found r is; learns = learns }
 
   -- what is put into the link that the seat has taken, and what was there
-  module _ (me me' : Sat (Seated M) LinkView) (i : ℕ) (new was : LinkView) (t : HasTaken stands member i me) (is : me' ≡ (me.0, (i, new) ∷ [])) (there : me.1 ≡ (i, was) ∷ []) where
+  module _ (me me' : Sat (Seated M) LinkView) (i : ℕ) (new was : LinkView) (t : HasTakenLink stands member i me) (is : me' ≡ (me.0, (i, new) ∷ [])) (there : me.1 ≡ (i, was) ∷ []) where
     pub holds_now : HoldsLink me' (Node (at_rest member)) [] i t.queue new
     holds_now = holds_another me me' (Node (at_rest member)) [] i t.queue t.queue new t.holds is
 

@@ -22,7 +22,7 @@ use Rattle.wire_board.proofs.Singles.{call_heard_goes, report_told_goes, still_g
 use Rattle.wire_board.specs.Freeing.{IsFree}
 use Rattle.wire_board.specs.Going.{FailureAt, GoesOn, Machine, Parts, Setting}
 use Rattle.wire_board.specs.Hearing.{CanHear, HasHeardAll, HasHeardFirst, HasToldAll, HasToldFirst, MayHearFirst}
-use Rattle.wire_board.specs.Led.{AreHeld, HasBeenLed, IsMachineAt, Learns, LinkView, Node, Seated, Standing, link_between, link_no, number_of}
+use Rattle.wire_board.specs.Led.{HoldParts, HasBeenLed, IsMachineAt, Learns, LinkView, Node, Seated, Standing, link_between, link_no, number_of}
 use Rattle.wire_board.specs.Standings.{CanBeginAtOnce, HasComeTo, Member, StandsOwing, at_rest}
 use Rattle.wire.specs.declared.wire_msgs.messages.Message.{Message}
 
@@ -38,7 +38,7 @@ module _ {M : Type 0} (stands : Setting → ℕ → Machine → M → Type 0) (f
 
   -- the parts go on to others
   pub led_on : (parts : List (Seated M)) (links : List LinkView) (next left : ℕ) (led : Led parts links next left) (new : Parts (Standing M)) → GoesOn (StandsOwing stands) failures done led.now new
-      → (parts' : List (Seated M)) (links' : List LinkView) (next' left' : ℕ) → AreHeld n new parts' links' next' left' → Led parts' links' next' left'
+      → (parts' : List (Seated M)) (links' : List LinkView) (next' left' : ℕ) → HoldParts n new parts' links' next' left' → Led parts' links' next' left'
   led_on parts links next left led new goes parts' links' next' left' held = record {
     now = new;
     held = held;
@@ -71,7 +71,7 @@ module _ {M : Type 0} (stands : Setting → ℕ → Machine → M → Type 0) (f
           let some_now : 0 < led.now.left = subst (λ (k : ℕ). 0 < k) (sym h.left_is) some_left in
           let goes = begins_goes stands failures done led.now a (inside n led.now parts links ticket left h a x there) (h.awake a) h.runs x is.2 z come some_now free s can in
           let made : Standing M = owing z s led.now.next in
-          let held : AreHeld n _ (slice_set parts a (Node made)) links (suc led.now.next) (pred led.now.left) =
+          let held : HoldParts n _ (slice_set parts a (Node made)) links (suc led.now.next) (pred led.now.left) =
           held_ticket n _ (slice_set parts a (Node made)) links ticket left
           (held_machine n led.now parts links ticket left h a made (is_low n led.now parts links ticket left h a x there) number (peers ∙ is.1)) (suc led.now.next) (pred led.now.left)
           in
@@ -87,7 +87,7 @@ module _ {M : Type 0} (stands : Setting → ℕ → Machine → M → Type 0) (f
           let some_now : 0 < led.now.left = subst (λ (k : ℕ). 0 < k) (sym h.left_is) some_left in
           let goes = begins_at_once_goes stands failures done led.now a (inside n led.now parts links ticket left h a x there) (h.awake a) h.runs x is.2 z come some_now free v can in
           let made : Standing M = owing_at_once z v led.now.next in
-          let held : AreHeld n _ (slice_set parts a (Node made)) links (suc led.now.next) (pred led.now.left) =
+          let held : HoldParts n _ (slice_set parts a (Node made)) links (suc led.now.next) (pred led.now.left) =
           held_ticket n _ (slice_set parts a (Node made)) links ticket left
           (held_machine n led.now parts links ticket left h a made (is_low n led.now parts links ticket left h a x there) number (peers ∙ is.1)) (suc led.now.next) (pred led.now.left)
           in
@@ -109,15 +109,15 @@ module _ {M : Type 0} (stands : Setting → ℕ → Machine → M → Type 0) (f
   -- a machine and a link are others
   pub held_both : (parts : List (Seated M)) (links : List LinkView) (next left : ℕ) (led : Led parts links next left) (y : Member M) → get_elem? parts y.number ≡ some (Node (at_rest y))
       → (z : Member M) → z.number ≡ y.number → z.peers ≡ y.peers → (i j : ℕ) (low_i : i < suc n) (low_j : j < suc n) (r : LinkView)
-      → AreHeld n (record led.now { machines = with_item led.now.machines y.number (at_rest z); links = with_link_between led.now.links i j r }) (slice_set parts y.number (Node (at_rest z))) (slice_set links (link_no y.peers i j) r) next left
+      → HoldParts n (record led.now { machines = with_item led.now.machines y.number (at_rest z); links = with_link_between led.now.links i j r }) (slice_set parts y.number (Node (at_rest z))) (slice_set links (link_no y.peers i j) r) next left
   held_both parts links next left led y there z number peers i j low_i low_j r =
       let h = led.held in
       let a : ℕ = y.number in
       let is : IsMachineAt n led.now a (Node (at_rest y)) = here_is n led.now parts links next left h a (at_rest y) there in
-      let with_machine : AreHeld n (record led.now { machines = with_item led.now.machines a (at_rest z) }) (slice_set parts a (Node (at_rest z))) links next left =
+      let with_machine : HoldParts n (record led.now { machines = with_item led.now.machines a (at_rest z) }) (slice_set parts a (Node (at_rest z))) links next left =
       held_machine n led.now parts links next left h a (at_rest z) (is_low n led.now parts links next left h a (at_rest y) there) number (peers ∙ is.1)
       in
-      subst (λ (k : ℕ). AreHeld n (record led.now { machines = with_item led.now.machines a (at_rest z); links = with_link_between led.now.links i j r }) (slice_set parts a (Node (at_rest z))) (slice_set links (link_no k i j) r) next left) (sym is.1)
+      subst (λ (k : ℕ). HoldParts n (record led.now { machines = with_item led.now.machines a (at_rest z); links = with_link_between led.now.links i j r }) (slice_set parts a (Node (at_rest z))) (slice_set links (link_no k i j) r) next left) (sym is.1)
       (held_link n (record led.now { machines = with_item led.now.machines a (at_rest z) }) (slice_set parts a (Node (at_rest z))) links next left with_machine i j low_i low_j r
       (has_link led.now.links (suc n) i j (have_all parts links next left led) low_i low_j))
 

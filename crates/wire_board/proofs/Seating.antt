@@ -7,7 +7,7 @@ use Rattle.coordinator.specs.machine_api.AtOnce.{AreDone, HasUpdatedAtOnce, deed
 use Rattle.coordinator.specs.machine_api.Promises.{Admit, Deed, HasAdmittedSome, HasDone, StandsStill, does}
 use Rattle.coordinator.specs.machine_api.Promises as deed
 use Rattle.wire_board.proofs.Deeds.{owing, owing_at_once}
-use Rattle.wire_board.specs.Standings.{ComesOn, ComesTo, HasComeTo, IsOwn, Machine, Member, Setting, Standing, at_rest}
+use Rattle.wire_board.specs.Standings.{ComesOn, WorksTo, HasComeTo, IsOwn, Machine, Member, Setting, Standing, at_rest}
 
 module _ {M : Type 0} (stands : Setting → ℕ → Machine → M → Type 0) where
   pub come_nowhere : (y : Member M) → HasComeTo stands (at_rest y) y.machine
@@ -46,8 +46,8 @@ module _ {M : Type 0} (stands : Setting → ℕ → Machine → M → Type 0) wh
 
   pub come_on : (x : Standing M) (y z : M) → HasComeTo stands x y → ComesOn stands y z → HasComeTo stands x z
   come_on x y z come on st a m setting standing =
-      let first : ComesTo stands y st a m = come st a m setting standing in
-      let second : ComesTo stands z st a first.after = on st a first.after setting first.here in
+      let first : WorksTo stands y st a m = come st a m setting standing in
+      let second : WorksTo stands z st a first.after = on st a first.after setting first.here in
       record {
         deeds = first.deeds ++ second.deeds;
         own = own_both first.deeds second.deeds first.own second.own;
@@ -58,8 +58,8 @@ module _ {M : Type 0} (stands : Setting → ℕ → Machine → M → Type 0) wh
 
   pub on_then : (x y z : M) → ComesOn stands x y → ComesOn stands y z → ComesOn stands x z
   on_then x y z one other st a m setting here =
-      let first : ComesTo stands y st a m = one st a m setting here in
-      let second : ComesTo stands z st a first.after = other st a first.after setting first.here in
+      let first : WorksTo stands y st a m = one st a m setting here in
+      let second : WorksTo stands z st a first.after = other st a first.after setting first.here in
       record {
         deeds = first.deeds ++ second.deeds;
         own = own_both first.deeds second.deeds first.own second.own;

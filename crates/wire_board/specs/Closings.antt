@@ -17,7 +17,7 @@ abbrev pub gathered : {M : Type 0} → Leading → List (Member M) → List (Sea
 gathered {M} lead members = Lead lead ∷ map (λ (y : Member M). Node (at_rest y)) members
 
 -- These are all parts of a board with n machines, in the order of their numbers.
-pub record AreGathered {M : Type 0} (n : ℕ) (lead : Leading) (members : List (Member M)) : Type 0 where
+pub record AreAllGathered {M : Type 0} (n : ℕ) (lead : Leading) (members : List (Member M)) : Type 0 where
   pub lead_number : lead.number ≡ n
   pub many : length members ≡ n
   pub numbers : (a : ℕ) (y : Member M) → get_elem? members a ≡ some y → y.number ≡ a

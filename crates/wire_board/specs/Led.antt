@@ -36,7 +36,7 @@ IsLeadOf n p (Node x) = ⊥
 IsLeadOf n p (Lead x) = (x.number ≡ n) × (p.coordinator ≡ x.coordinator)
 
 -- Seats and links hold these parts of a cluster, of which no machine has failed.
-pub record AreHeld {M : Type 0} (n : ℕ) (p : Parts (Standing M)) (parts : List (Seated M)) (links : List LinkView) (next left : ℕ) : Type 0 where
+pub record HoldParts {M : Type 0} (n : ℕ) (p : Parts (Standing M)) (parts : List (Seated M)) (links : List LinkView) (next left : ℕ) : Type 0 where
   pub many : length p.machines.items ≡ n
   pub count : length parts ≡ suc n
   pub machines : (a : ℕ) (x : Seated M) → a < n → get_elem? parts a ≡ some x → IsMachineAt n p a x
@@ -50,7 +50,7 @@ pub record AreHeld {M : Type 0} (n : ℕ) (p : Parts (Standing M)) (parts : List
 -- The parts stand for a cluster, and each cluster for which they stood as the board was made has gone on to one.
 pub record HasBeenLed {M : Type 0} (stands : Setting → ℕ → Machine → M → Type 0) (failures : List FailureAt) (done : List ℕ) (opening : Parts (Standing M)) (n : ℕ) (parts : List (Seated M)) (links : List LinkView) (next left : ℕ) : Type 0 where
   pub now : Parts (Standing M)
-  pub held : AreHeld n now parts links next left
+  pub held : HoldParts n now parts links next left
   pub goes : GoesOn (StandsOwing stands) failures done opening now
   pub setting : Setting
   pub cluster : Cluster

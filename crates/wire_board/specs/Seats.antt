@@ -20,7 +20,7 @@ pub record Sits {M : Type 0} (stands : Setting → ℕ → Machine → M → Typ
   pub come : HasComeTo stands was member.machine
 
 -- The seat has this machine, which owes nothing, and the link i as it was taken.
-pub record HasTaken {M : Type 0} (stands : Setting → ℕ → Machine → M → Type 0) (member : Member M) (i : ℕ) (me : Sat (Seated M) LinkView) : Type 0 where
+pub record HasTakenLink {M : Type 0} (stands : Setting → ℕ → Machine → M → Type 0) (member : Member M) (i : ℕ) (me : Sat (Seated M) LinkView) : Type 0 where
   pub queue : LinkView
   pub holds : HoldsLink me (Node (at_rest member)) [] i queue queue
   pub learns : Learns stands (Node (at_rest member)) i queue

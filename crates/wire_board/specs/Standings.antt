@@ -37,7 +37,7 @@ IsOwn (Mark s) = ⊤
 IsOwn Section = ⊤
 
 -- From this machine of the law such deeds lead to one for which the code stands.
-pub record ComesTo {M : Type 0} (stands : Setting → ℕ → Machine → M → Type 0) (y : M) (st : Setting) (a : ℕ) (m : Machine) : Type 0 where
+pub record WorksTo {M : Type 0} (stands : Setting → ℕ → Machine → M → Type 0) (y : M) (st : Setting) (a : ℕ) (m : Machine) : Type 0 where
   pub deeds : List Deed
   pub own : AllByRecursion IsOwn deeds
   pub after : Machine
@@ -46,11 +46,11 @@ pub record ComesTo {M : Type 0} (stands : Setting → ℕ → Machine → M → 
 
 -- from each machine for which x stood, once what was owed is done
 abbrev pub HasComeTo : {M : Type 0} → (Setting → ℕ → Machine → M → Type 0) → Standing M → M → Type 0
-HasComeTo stands x y = (st : Setting) (a : ℕ) (m : Machine) → IsSnapSetting st → StandsOwing stands st a m x → ComesTo stands y st a m
+HasComeTo stands x y = (st : Setting) (a : ℕ) (m : Machine) → IsSnapSetting st → StandsOwing stands st a m x → WorksTo stands y st a m
 
 -- from each machine for which the old code stands
 abbrev pub ComesOn : {M : Type 0} → (Setting → ℕ → Machine → M → Type 0) → M → M → Type 0
-ComesOn stands old new = OfEach stands old (ComesTo stands new)
+ComesOn stands old new = OfEach stands old (WorksTo stands new)
 
 -- ---- an update at once that it begins
 

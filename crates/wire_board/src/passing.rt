@@ -11,7 +11,7 @@ ghost use Rattle.wire_board.specs.Freeing.{IsFree};
 ghost use Rattle.wire_board.specs.Hearing.{CanHear, HasHeardAll, HasHeardFirst, HasToldAll, HasToldFirst, MayHearFirst, MessageView};
 ghost use Rattle.wire_board.specs.Led.{HasBeenLed, LinkView, Node, link_no, number_of};
 ghost use Rattle.wire_board.specs.Openings.{standing_parts};
-ghost use Rattle.wire_board.specs.Seats.{HasTaken, Sits, at_rest, word_at};
+ghost use Rattle.wire_board.specs.Seats.{HasTakenLink, Sits, at_rest, word_at};
 
 use crate::boards::{Board, word_of};
 use crate::calls::{hear_first, tell_first};
@@ -102,7 +102,7 @@ impl<M: SavingMachine> Board<M> {
         requires link { (link < self.now.table.many) ×
             (link ≡ link_no member.old.peers from.0 member.old.number) ×
             (suc from.0 < member.old.peers) }
-        requires holds { HasTaken M.stands member.old link place.old.seat.me }
+        requires holds { HasTakenLink M.stands member.old link place.old.seat.me }
         ensures table { place.new.seat.table_id ≡ place.old.seat.table_id }
         ensures sits { Sits M.stands member.new place.new.seat.me }
         ensures same { (member.new.number ≡ member.old.number) ×
@@ -284,7 +284,7 @@ impl<M: SavingMachine> Board<M> {
         requires link { link < self.now.table.many }
         requires sits { Sits M.stands member.now place.old.seat.me }
         ensures table { place.new.seat.table_id ≡ place.old.seat.table_id }
-        ensures taken { result ≡ Laden → HasTaken M.stands member.now link place.new.seat.me }
+        ensures taken { result ≡ Laden → HasTakenLink M.stands member.now link place.new.seat.me }
         ensures missed { result ≢ Laden → Sits M.stands member.now place.new.seat.me }
         ensures found { place.new.seat.me.0.found ≡ (word_at link, number_in result) }
     {
@@ -301,7 +301,7 @@ impl<M: SavingMachine> Board<M> {
         requires link { link < self.now.table.many }
         requires sits { Sits M.stands member.now place.old.seat.me }
         ensures table { place.new.seat.table_id ≡ place.old.seat.table_id }
-        ensures taken { result ≡ true → HasTaken M.stands member.now link place.new.seat.me }
+        ensures taken { result ≡ true → HasTakenLink M.stands member.now link place.new.seat.me }
         ensures missed { result ≡ false → Sits M.stands member.now place.new.seat.me }
         ensures found { result ≡ false → (word : LinkWord) × (word ≢ Bare) ×
             (place.new.seat.me.0.found ≡ (word_at link, number_in word)) }
@@ -326,7 +326,7 @@ impl<M: SavingMachine> Board<M> {
         requires link { link < self.now.table.many }
         requires sits { Sits M.stands member.now place.old.seat.me }
         ensures table { place.new.seat.table_id ≡ place.old.seat.table_id }
-        ensures taken { result ≡ true → HasTaken M.stands member.now link place.new.seat.me }
+        ensures taken { result ≡ true → HasTakenLink M.stands member.now link place.new.seat.me }
         ensures missed { result ≡ false → Sits M.stands member.now place.new.seat.me }
         ensures found { result ≡ false → (word : LinkWord) × (word ≢ Bare) ×
             (place.new.seat.me.0.found ≡ (word_at link, number_in word)) }
@@ -354,7 +354,7 @@ impl<M: SavingMachine> Board<M> {
         requires link { (link < self.now.table.many) × (expected ≢ Out) }
         requires sits { Sits M.stands member.now place.old.seat.me }
         ensures table { place.new.seat.table_id ≡ place.old.seat.table_id }
-        ensures taken { result ≡ expected → HasTaken M.stands member.now link place.new.seat.me }
+        ensures taken { result ≡ expected → HasTakenLink M.stands member.now link place.new.seat.me }
         ensures missed { result ≢ expected → Sits M.stands member.now place.new.seat.me }
         ensures found { place.new.seat.me.0.found ≡ (word_at link, number_in result) }
     {
