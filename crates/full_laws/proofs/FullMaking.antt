@@ -8,7 +8,7 @@ use Rattle.gl_base.specs.declared.entries.Entry.TheVariants.{Go}
 use Rattle.gl_base.specs.declared.scopes.ScopeId.{ScopeId}
 use Rattle.graph_core.specs.DataGraph.{DataEdge, size}
 use Rattle.graph_core.specs.Halves.{DataHalf, halves_of}
-use Rattle.graph_core.proofs.HalvesLaws.{IsHalfAt, each-append, each-weaker, halves_are}
+use Rattle.graph_core.proofs.HalvesLaws.{IsHalfAt, each-append, each-back, each-front, each-weaker, halves_are}
 use Rattle.update_api.specs.Near.{Near}
 use Rattle.seq_run.specs.Orders.{all_tasks}
 use Rattle.seq_run.specs.States.{GraphState, near_of}
@@ -37,7 +37,7 @@ use Rattle.full_laws.specs.FullReplays.{ComesTo, IsFullReplay, IsOnly, IsTaskFul
 use Rattle.full_laws.specs.FullWorlds.{FullWorld, full_way, number_at, with_full_part}
 use Rattle.full_laws.specs.Items.{AVertex, AnEdge, IsItem, Item, is_written, keeps, number_in}
 use Rattle.full_laws.proofs.FromPlaces.{IsGivenBy, IsGivenMessage, givens, ready_holds, ready_stage, stage_as}
-use Rattle.full_laws.proofs.FullWays.{each_back, each_front, gifts-append}
+use Rattle.full_laws.proofs.FullWays.{gifts-append}
 use Rattle.full_laws.proofs.Gathering.{AreTrue}
 use Rattle.full_laws.proofs.MirrorSteps.{ArePlaced}
 
@@ -77,10 +77,10 @@ given_gifts true link out s gift = ap gifts_of (sym (append_assoc link out (Give
 given_gifts false link out s gift = sym (append-nil (gifts_of (link ++ out)))
 
 -- what lies along a half, with this number at its other end and this mark
-abbrev near_with : DataHalf → ℕ → ℕ → Near
+abbrev pub near_with : DataHalf → ℕ → ℕ → Near
 near_with h number mark = record { number = number; mark = mark; weight = h.weight; out = h.out; into = h.into }
 
-end_is : (e : DataEdge) (v u : ℕ) → IsBetween e v u → is_end e v ≡ true
+pub end_is : (e : DataEdge) (v u : ℕ) → IsBetween e v u → is_end e v ≡ true
 end_is e v u between = ⊎_elim
     (λ (from : (e.from ≡ v) × (e.to ≡ u)). or_left (e.from == v) (e.to == v) (eq-eqb e.from v from.0))
     (λ (to : (e.to ≡ v) × (e.from ≡ u)). or_right (e.from == v) (e.to == v) (eq-eqb e.to v to.0))
@@ -123,7 +123,7 @@ module _ (st : Setting) (is : IsSetting st) where
       (or_cases (d.from == v) (d.to == v) at)
 
   -- it writes nothing else
-  unwritten : (p : FullUpdate) (r : GraphState) (v : ℕ) (i : Item) → is_written st v i ≡ false → number_in (after_full st.graph p r v) i ≡ number_in r i
+  pub unwritten : (p : FullUpdate) (r : GraphState) (v : ℕ) (i : Item) → is_written st v i ≡ false → number_in (after_full st.graph p r v) i ≡ number_in r i
   unwritten p r v (AVertex x) away =
       after-vertex_other st.graph p r v x
       (λ same. both_ways (is_in_scope st v x) away (or_left (x == v) (is_near st v x) (eq-eqb x v same)))
@@ -275,14 +275,14 @@ module _ (st : Setting) (is : IsSetting st) (p : FullUpdate) (w : FullWorld) (pl
       subst (AllByRecursion P) (sym (gifts_now q b)) (each-append P (gifts_from w q b) (more_if (q == a) b) old (all_if P ((q == a) && reaches b) (the_gift b) (λ told. its)))
 
   all_before : (P : Gift → Type 0) (q b : ℕ) → AllByRecursion P (gifts_from new q b) → AllByRecursion P (gifts_from w q b)
-  all_before P q b every = each_front P (gifts_from w q b) (more_if (q == a) b) (subst (AllByRecursion P) (gifts_now q b) every)
+  all_before P q b every = each-front P (gifts_from w q b) (more_if (q == a) b) (subst (AllByRecursion P) (gifts_now q b) every)
 
   told : (b : ℕ) → reaches b ≡ true → ((a == a) && reaches b) ≡ true
   told b reached = and_from (a == a) (reaches b) (eq-eqb a a refl) reached
 
   its_told : (P : Gift → Type 0) (b : ℕ) → reaches b ≡ true → AllByRecursion P (gifts_from new a b) → P (the_gift b)
   its_told P b reached every =
-      of_if P ((a == a) && reaches b) (the_gift b) (told b reached) (each_back P (gifts_from w a b) (more_if (a == a) b) (subst (AllByRecursion P) (gifts_now a b) every))
+      of_if P ((a == a) && reaches b) (the_gift b) (told b reached) (each-back P (gifts_from w a b) (more_if (a == a) b) (subst (AllByRecursion P) (gifts_now a b) every))
 
   -- each other machine of the scope is told
   reached_from : (b x : ℕ) → b ≢ a → st.owner x ≡ b → is_in_scope st v x ≡ true → reaches b ≡ true

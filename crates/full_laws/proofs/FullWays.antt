@@ -1,6 +1,5 @@
 -- What is on the way, and what is given there, after a message went to its link or left it.
 use Rattle.std.proofs.Common.{◌≡◌, ◌≢◌, ◌⊎◌, ℕ, List, [], ◌∷◌, ◌++◌, refl, sym, ◌∙◌, ap, subst, subst₂, ⊎_elim, inl, inr, append_assoc}
-use Rattle.std.specs.List.{AllByRecursion}
 use Rattle.cluster_laws.specs.cluster_core.Ranges.{set_at}
 use Rattle.cluster_laws.proofs.cluster_core.Basics.{set_at-cases, set_at-kept, set_at-other, set_at-same, set_at-there}
 use Rattle.cluster_laws.proofs.cluster_core.Taking.{same_way}
@@ -10,14 +9,6 @@ use Rattle.full_laws.specs.FullParts.{FullPart}
 use Rattle.full_laws.specs.FullWorlds.{FullWorld, full_way}
 
 -- ---- lists
-
-pub each_front : {X : Type 0} (P : X → Type 0) (xs ys : List X) → AllByRecursion P (xs ++ ys) → AllByRecursion P xs
-each_front P [] ys all = tt
-each_front P (x ∷ xs) ys all = (all.0, each_front P xs ys all.1)
-
-pub each_back : {X : Type 0} (P : X → Type 0) (xs ys : List X) → AllByRecursion P (xs ++ ys) → AllByRecursion P ys
-each_back P [] ys all = all
-each_back P (x ∷ xs) ys all = each_back P xs ys all.1
 
 pub gifts-append : (ms ns : List FullMessage) → gifts_of (ms ++ ns) ≡ gifts_of ms ++ gifts_of ns
 gifts-append [] ns = refl

@@ -2,7 +2,7 @@
 use Rattle.std.proofs.Common.{◌≡◌, ℕ, ◌==◌, Bool, true, false, if◌then◌else◌, Option, None, Some, List, [], ◌∷◌, ◌++◌, refl, sym, ◌∙◌, ap, subst, ⊎_elim}
 use Rattle.std.specs.List.{AllByRecursion}
 use Rattle.gl_base.specs.declared.scopes.ScopeId.{ScopeId}
-use Rattle.graph_core.proofs.HalvesLaws.{each-append}
+use Rattle.graph_core.proofs.HalvesLaws.{each-append, each-back, each-front}
 use Rattle.cluster_laws.specs.cluster_core.Ranges.{set_at}
 use Rattle.cluster_laws.specs.cluster_core.Scopes.{is_scope, own_from, set_for}
 use Rattle.cluster_laws.specs.cluster_core.Settings.{Setting}
@@ -14,7 +14,7 @@ use Rattle.full_laws.specs.FullMessages.{FullMessage, Gather, Gift, Give, Home}
 use Rattle.full_laws.specs.FullParts.{FullPart, FullStand}
 use Rattle.full_laws.specs.FullPlaces.{AreGathered, IsSeen, IsTrueMessage}
 use Rattle.full_laws.specs.FullWorlds.{FullWorld, with_full_part}
-use Rattle.full_laws.proofs.FullWays.{each_back, each_front, set_two}
+use Rattle.full_laws.proofs.FullWays.{set_two}
 use Rattle.full_laws.proofs.FromPlaces.{IsCarriedNowhere, IsNoRequest}
 
 -- ---- one part
@@ -188,13 +188,13 @@ module _ (what new : ScopeId → ℕ → Option ℕ) (s : ScopeId) (others : (t 
 
   module _ (w : FullWorld) (a : ℕ) (nowhere : IsCarriedNowhere w s a) (all : AreTrue what w) where
     pub links_other : (p q : ℕ) → AllByRecursion (IsTrueMessage new) (w.link p q)
-    links_other p q = messages_other (w.link p q) (each_front (IsNoRequest s) (w.link p q) ((w.part p).out q) (nowhere.messages p q)) (all.links p q)
+    links_other p q = messages_other (w.link p q) (each-front (IsNoRequest s) (w.link p q) ((w.part p).out q) (nowhere.messages p q)) (all.links p q)
 
     pub others_other : (b : ℕ) → IsTrueOthers new s b (w.part b)
     others_other b =
         let h = all.parts b in
         record {
-          out = λ q. messages_other ((w.part b).out q) (each_back (IsNoRequest s) (w.link b q) ((w.part b).out q) (nowhere.messages b q)) (h.out q);
+          out = λ q. messages_other ((w.part b).out q) (each-back (IsNoRequest s) (w.link b q) ((w.part b).out q) (nowhere.messages b q)) (h.out q);
           stands = λ t apart stand is. seen_other t stand.seen apart (h.stands t stand is);
           ready = λ t apart seen home is. seen_other t seen apart (h.ready t seen home is);
         }

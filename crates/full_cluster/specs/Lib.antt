@@ -1,0 +1,4 @@
+pub mod WholeLocks
+pub mod Written
+pub mod Given
+pub mod Inner

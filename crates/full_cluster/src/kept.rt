@@ -1,0 +1,309 @@
+//! The numbers and the tasks that a machine keeps.
+ghost use Rattle.std.specs.Prelude.{◌≡◌, ℕ, ◌<◌, ◌==◌, ◌&&◌, ◌||◌, not, false, Option, length, slice_index, All, IfOk, OnOk, OnErr};
+ghost use Rattle.gl_base.specs.declared.entries.Entry.{Entry};
+ghost use Rattle.gl_base.specs.declared.scopes.ScopeId.{ScopeId};
+ghost use Rattle.graph_core.specs.DataGraph.{size};
+ghost use Rattle.graph_core.specs.Halves.{halves_of};
+ghost use Rattle.seq_run.specs.Inner.Waking.{is_woken_along};
+ghost use Rattle.seq_run.specs.States.{is_woken};
+ghost use Rattle.cluster_laws.specs.cluster_core.Settings.{IsSetting, Setting};
+ghost use Rattle.full_scope.specs.FullStates.{full_wakes};
+ghost use Rattle.full_laws.specs.FullEffects.{gathers, lent_full, takes_gift, updated_full};
+ghost use Rattle.full_laws.specs.FullMessages.{Gift};
+ghost use Rattle.full_laws.specs.FullParts.{FullPart};
+ghost use Rattle.full_cluster.specs.Given.{edge_after, is_listed, is_marked, owner_in, vertex_after, AreOfScope, HasLists, HasNumbers, IsGift, IsSeenList};
+ghost use Rattle.full_cluster.specs.Inner.Rows.{nth_half, wakes_own};
+
+use crate::updates::update_at;
+use full_scope::FullProgram;
+use gl_base::{EdgeNo, MachineNo, NoMemory, Vertex};
+use graph_core::{Graph, Half};
+use std::alloc::Global;
+use update_api::Woken;
+
+/// What an update gives another machine: the numbers of that machine's vertices in the scope, those of the
+/// edges to them, and which of them are woken.
+#[derive(Drop)]
+pub struct FullGift {
+    pub numbers: Vec<(Vertex, u64)>,
+    pub edges: Vec<(EdgeNo, u64)>,
+    pub wakes: Vec<Vertex>,
+}
+
+/// A list of the numbers of all vertices, one of those of all edges, and one of which vertices are tasks.
+/// Those that the machine doesn't keep mean nothing.
+#[derive(Drop)]
+pub struct KeptNumbers {
+    pub numbers: Vec<u64>,
+    pub edges: Vec<u64>,
+    pub tasks: Vec<bool>,
+}
+
+impl KeptNumbers {
+    /// Adds the number of x to what a scope has gathered. After `NoMemory` the list is unchanged.
+    pub fn gather(&self, x: Vertex, seen: &mut Vec<(Vertex, u64)>) -> Result<(), NoMemory>
+        requires { x.0 < length self.now.numbers.items }
+        ensures gathered { (f : ℕ → Option ℕ) → IsSeenList seen.old.items f →
+            OnOk result (IsSeenList seen.new.items (gathers x.0 (slice_index self.now.numbers.items x.0) f)) }
+        ensures unchanged { OnErr result (seen.new.items ≡ seen.old.items) }
+    {
+        seen.push((x, self.numbers[x.0 as usize]))?;
+        Ok(())
+    }
+
+    /// Takes what is given. Locks are not looked at.
+    pub fn take(&mut self, gift: &FullGift)
+        requires vertices { All (λ pair. pair.0.0 < length self.old.numbers.items) gift.now.numbers.items }
+        requires edges { All (λ pair. pair.0.0 < length self.old.edges.items) gift.now.edges.items }
+        requires wakes { All (λ u. u.0 < length self.old.tasks.items) gift.now.wakes.items }
+        ensures { (st : Setting) (a : ℕ) (part : FullPart) (s : ScopeId) (g : Gift) →
+            HasNumbers st a self.old part → IsGift st gift.now g →
+            HasNumbers st a self.new (takes_gift s g part) }
+    {
+        write_vertices(&mut self.numbers, &gift.numbers);
+        write_edges(&mut self.edges, &gift.edges);
+        mark_all(&mut self.tasks, &gift.wakes);
+    }
+
+    /// Makes the update of v at its home `me`, for which these numbers were gathered. Answers whom it wakes.
+    /// After `NoMemory` only the gathered numbers are written.
+    pub fn update<P: FullProgram>(
+        &mut self,
+        alloc: Global,
+        graph: &Graph,
+        program: &P,
+        owner: &[MachineNo],
+        me: MachineNo,
+        v: Vertex,
+        seen: &[(Vertex, u64)],
+    ) -> Result<Woken, NoMemory>
+        requires undirected { graph.now.directed ≡ false }
+        requires vertex { v.0 < size graph.now }
+        requires owners { length owner.now ≡ size graph.now }
+        requires count { length self.old.numbers.items ≡ size graph.now }
+        requires edge_count { length self.old.edges.items ≡ length graph.now.edges }
+        requires task_count { length self.old.tasks.items ≡ size graph.now }
+        requires seen { All (λ pair. pair.0.0 < length self.old.numbers.items) seen.now }
+        ensures updated { (st : Setting) (part : FullPart) (s : ScopeId) (f : ℕ → Option ℕ) (entry : Entry) →
+            IsSetting st → st.graph ≡ graph.now → st.owner ≡ owner_in owner.now → st.owner v.0 ≡ me.0 →
+            HasNumbers st me.0 self.old part → IsSeenList seen.now f → AreOfScope st v.0 f →
+            let p = P.meaning program.now in let lent = lent_full f part in
+            OnOk result (HasNumbers st me.0 self.new (updated_full st p me.0 s v.0 lent entry part)) }
+        ensures woken { (st : Setting) (part : FullPart) (f : ℕ → Option ℕ) →
+            IsSetting st → st.graph ≡ graph.now → st.owner ≡ owner_in owner.now → st.owner v.0 ≡ me.0 →
+            HasNumbers st me.0 self.old part → IsSeenList seen.now f → AreOfScope st v.0 f →
+            let p = P.meaning program.now in let lent = lent_full f part in
+            IfOk result (λ woken. (u : ℕ) → full_wakes st.graph p lent v.0 u ≡ is_woken woken (halves_of st.graph v.0) u) }
+        ensures same_edges { OnErr result (self.new.edges.items ≡ self.old.edges.items) }
+        ensures same_tasks { OnErr result (self.new.tasks.items ≡ self.old.tasks.items) }
+    {
+        update_lists(
+            alloc,
+            graph,
+            program,
+            owner,
+            me,
+            v,
+            seen,
+            &mut self.numbers,
+            &mut self.edges,
+            &mut self.tasks,
+        )
+    }
+}
+
+/// The same on the lists.
+fn update_lists<P: FullProgram>(
+    alloc: Global,
+    graph: &Graph,
+    program: &P,
+    owner: &[MachineNo],
+    me: MachineNo,
+    v: Vertex,
+    seen: &[(Vertex, u64)],
+    numbers: &mut [u64],
+    edges: &mut [u64],
+    tasks: &mut [bool],
+) -> Result<Woken, NoMemory>
+    requires undirected { graph.now.directed ≡ false }
+    requires vertex { v.0 < size graph.now }
+    requires owners { length owner.now ≡ size graph.now }
+    requires count { length numbers.old ≡ size graph.now }
+    requires edge_count { length edges.old ≡ length graph.now.edges }
+    requires task_count { length tasks.old ≡ size graph.now }
+    requires seen { All (λ pair. pair.0.0 < length numbers.old) seen.now }
+    ensures updated { (st : Setting) (part : FullPart) (s : ScopeId) (f : ℕ → Option ℕ) (entry : Entry) →
+        IsSetting st → st.graph ≡ graph.now → st.owner ≡ owner_in owner.now → st.owner v.0 ≡ me.0 →
+        HasLists st me.0 numbers.old edges.old tasks.old part → IsSeenList seen.now f → AreOfScope st v.0 f →
+        let p = P.meaning program.now in let lent = lent_full f part in
+        OnOk result (HasLists st me.0 numbers.new edges.new tasks.new (updated_full st p me.0 s v.0 lent entry part)) }
+    ensures woken { (st : Setting) (part : FullPart) (f : ℕ → Option ℕ) →
+        IsSetting st → st.graph ≡ graph.now → st.owner ≡ owner_in owner.now → st.owner v.0 ≡ me.0 →
+        HasLists st me.0 numbers.old edges.old tasks.old part → IsSeenList seen.now f → AreOfScope st v.0 f →
+        let p = P.meaning program.now in let lent = lent_full f part in
+        IfOk result (λ woken. (u : ℕ) → full_wakes st.graph p lent v.0 u ≡ is_woken woken (halves_of st.graph v.0) u) }
+    ensures same_edges { OnErr result (edges.new ≡ edges.old) }
+    ensures same_tasks { OnErr result (tasks.new ≡ tasks.old) }
+    ensures count_left { length numbers.new ≡ length numbers.old }
+    ensures edge_count_left { length edges.new ≡ length edges.old }
+    ensures task_count_left { length tasks.new ≡ length tasks.old }
+{
+    let _n = graph.n();
+    write_vertices(numbers, seen);
+    let woken = update_at(alloc, graph, program, v, numbers, edges)?;
+    finish(tasks, graph.halves(v), owner, me, v, woken);
+    Ok(woken)
+}
+
+/// Vertex v is a task no more, and those of this machine are that its update wakes.
+fn finish(
+    tasks: &mut [bool],
+    halves: &[Half],
+    owner: &[MachineNo],
+    me: MachineNo,
+    v: Vertex,
+    woken: Woken,
+)
+    requires vertex { v.0 < length tasks.old }
+    requires ends { (i : ℕ) → i < length halves.now → (nth_half halves.now i).other.0 < length tasks.old }
+    requires owners { length owner.now ≡ length tasks.old }
+    ensures count { length tasks.new ≡ length tasks.old }
+    ensures marked { (u : ℕ) → u < length tasks.old → is_marked tasks.new u
+        ≡ (wakes_own (owner_in owner.now) me.0 woken halves.now u || (is_marked tasks.old u && not (u == v.0))) }
+{
+    tasks[v.0 as usize] = false;
+    for half in halves {
+        let is_own = owner[half.other.0 as usize].0 == me.0;
+        mark(tasks, half.other, is_own && is_woken_along(woken, half.out));
+    }
+}
+
+/// Marks a vertex, if this says so.
+fn mark(marks: &mut [bool], u: Vertex, yes: bool)
+    requires { u.0 < length marks.old }
+    ensures count { length marks.new ≡ length marks.old }
+    ensures marked { (x : ℕ) → x < length marks.old →
+        is_marked marks.new x ≡ ((yes && u.0 == x) || is_marked marks.old x) }
+{
+    if yes {
+        marks[u.0 as usize] = true;
+    }
+}
+
+/// Whether an update wakes the other end of an edge, which leads out of its vertex or not.
+fn is_woken_along(woken: Woken, out: bool) -> bool
+    ensures { result ≡ is_woken_along woken out }
+{
+    match woken {
+        Woken::Nobody => false,
+        Woken::Ahead => out,
+        Woken::Around => true,
+    }
+}
+
+/// Writes numbers of vertices, one after another.
+fn write_vertices(numbers: &mut [u64], pairs: &[(Vertex, u64)])
+    requires { All (λ pair. pair.0.0 < length numbers.old) pairs.now }
+    ensures count { length numbers.new ≡ length numbers.old }
+    ensures written { (x : ℕ) → x < length numbers.old →
+        slice_index numbers.new x ≡ vertex_after pairs.now x (slice_index numbers.old x) }
+{
+    for pair in pairs {
+        numbers[pair.0.0 as usize] = pair.1;
+    }
+}
+
+/// Writes numbers of edges, one after another.
+fn write_edges(edges: &mut [u64], pairs: &[(EdgeNo, u64)])
+    requires { All (λ pair. pair.0.0 < length edges.old) pairs.now }
+    ensures count { length edges.new ≡ length edges.old }
+    ensures written { (e : ℕ) → e < length edges.old →
+        slice_index edges.new e ≡ edge_after pairs.now e (slice_index edges.old e) }
+{
+    for pair in pairs {
+        edges[pair.0.0 as usize] = pair.1;
+    }
+}
+
+/// Marks each of these vertices.
+fn mark_all(marks: &mut [bool], list: &[Vertex])
+    requires { All (λ u. u.0 < length marks.old) list.now }
+    ensures count { length marks.new ≡ length marks.old }
+    ensures marked { (u : ℕ) → u < length marks.old →
+        is_marked marks.new u ≡ (is_listed list.now u || is_marked marks.old u) }
+{
+    for u in list {
+        marks[u.0 as usize] = true;
+    }
+}
+
+#[cfg(test)]
+mod tests {
+    use super::*;
+    use gl_base::INF;
+    use graph_core::EdgeIn;
+    use prog_match::Pairs;
+
+    /// The edge between the vertices with these identifiers.
+    fn edge(from: u64, to: u64) -> EdgeIn {
+        EdgeIn {
+            from,
+            to,
+            weight: 1,
+        }
+    }
+
+    /// Vertices 1 to 4 in a line on two machines. Vertex 3 is matched with 2, which the other machine owns:
+    /// what the home has then, and what the other machine has when it was given its part.
+    #[test]
+    fn matches_over_two_machines(rt: HostRuntime) {
+        let alloc = rt.alloc();
+        let ids = Vec::from_array(alloc, [1, 2, 3, 4]).expect(&rt, "memory");
+        let list = [edge(1, 2), edge(2, 3), edge(3, 4)];
+        let edges = Vec::from_array(alloc, list).expect(&rt, "memory");
+        let Ok(graph) = Graph::build(alloc, ids, edges, false) else {
+            panic!(rt; "the line is a graph");
+        };
+        assert_eq!(rt; graph.n(), 4);
+        assert_eq!(rt; graph.m(), 3);
+        assert!(rt; !graph.directed());
+        let owner = [MachineNo(0), MachineNo(0), MachineNo(1), MachineNo(1)];
+        let mut home = KeptNumbers {
+            numbers: Vec::from_array(alloc, [INF; 4]).expect(&rt, "memory"),
+            edges: Vec::from_array(alloc, [0; 3]).expect(&rt, "memory"),
+            tasks: Vec::from_array(alloc, [false, false, true, true]).expect(&rt, "memory"),
+        };
+        let seen = [(Vertex(1), INF), (Vertex(2), INF), (Vertex(3), INF)];
+        let woken = home.update(
+            alloc,
+            &graph,
+            &Pairs,
+            &owner,
+            MachineNo(1),
+            Vertex(2),
+            &seen,
+        );
+        assert!(rt; matches!(woken, Ok(Woken::Nobody)));
+        assert_eq!(rt; home.numbers.as_slice(), [INF, 3, 2, INF].as_slice());
+        assert_eq!(rt; home.edges.as_slice(), [0, 1, 0].as_slice());
+        assert_eq!(rt;
+            home.tasks.as_slice(),
+            [false, false, false, true].as_slice()
+        );
+    }
+
+    /// The number of the second of two vertices.
+    #[test]
+    fn gathers_a_number(rt: HostRuntime) {
+        let alloc = rt.alloc();
+        let kept = KeptNumbers {
+            numbers: Vec::from_array(alloc, [5, 7]).expect(&rt, "memory"),
+            edges: Vec::new(alloc),
+            tasks: Vec::new(alloc),
+        };
+        let mut seen = Vec::new(alloc);
+        assert!(rt; kept.gather(Vertex(1), &mut seen).is_ok());
+        assert_eq!(rt; seen.len(), 1);
+        assert_eq!(rt; seen[0].1, 7);
+    }
+}
