@@ -21,8 +21,8 @@ use graph_core::{Graph, Half};
 use std::alloc::Global;
 use update_api::Woken;
 
-/// What an update gives another machine: the numbers of that machine's vertices in the scope, those of the
-/// edges to them, and which of them are woken.
+/// What an update gives another machine: the numbers of that machine's vertices in the scope, those
+/// of the edges to them, and which of them are woken.
 #[derive(Drop)]
 pub struct FullGift {
     pub numbers: Vec<(Vertex, u64)>,
@@ -30,8 +30,8 @@ pub struct FullGift {
     pub wakes: Vec<Vertex>,
 }
 
-/// A list of the numbers of all vertices, one of those of all edges, and one of which vertices are tasks.
-/// Those that the machine doesn't keep mean nothing.
+/// A list of the numbers of all vertices, one of those of all edges, and one of which vertices are
+/// tasks. Those that the machine doesn't keep mean nothing.
 #[derive(Drop)]
 pub struct KeptNumbers {
     pub numbers: Vec<u64>,
@@ -44,7 +44,8 @@ impl KeptNumbers {
     pub fn gather(&self, x: Vertex, seen: &mut Vec<(Vertex, u64)>) -> Result<(), NoMemory>
         requires { x.0 < length self.now.numbers.items }
         ensures gathered { (f : ℕ → Option ℕ) → IsSeenList seen.old.items f →
-            OnOk result (IsSeenList seen.new.items (gathers x.0 (slice_index self.now.numbers.items x.0) f)) }
+            OnOk result (IsSeenList seen.new.items
+            (gathers x.0 (slice_index self.now.numbers.items x.0) f)) }
         ensures unchanged { OnErr result (seen.new.items ≡ seen.old.items) }
     {
         seen.push((x, self.numbers[x.0 as usize]))?;
@@ -53,7 +54,8 @@ impl KeptNumbers {
 
     /// Takes what is given. Locks are not looked at.
     pub fn take(&mut self, gift: &FullGift)
-        requires vertices { All (λ pair. pair.0.0 < length self.old.numbers.items) gift.now.numbers.items }
+        requires vertices { All (λ pair.
+            pair.0.0 < length self.old.numbers.items) gift.now.numbers.items }
         requires edges { All (λ pair. pair.0.0 < length self.old.edges.items) gift.now.edges.items }
         requires wakes { All (λ u. u.0 < length self.old.tasks.items) gift.now.wakes.items }
         ensures { (st : Setting) (a : ℕ) (part : FullPart) (s : ScopeId) (g : Gift) →
@@ -65,8 +67,8 @@ impl KeptNumbers {
         mark_all(&mut self.tasks, &gift.wakes);
     }
 
-    /// Makes the update of v at its home `me`, for which these numbers were gathered. Answers whom it wakes.
-    /// After `NoMemory` only the gathered numbers are written.
+    /// Makes the update of v at its home `me`, for which these numbers were gathered. Answers whom
+    /// it wakes. After `NoMemory` only the gathered numbers are written.
     pub fn update<P: FullProgram>(
         &mut self,
         alloc: Global,
@@ -84,16 +86,21 @@ impl KeptNumbers {
         requires edge_count { length self.old.edges.items ≡ length graph.now.edges }
         requires task_count { length self.old.tasks.items ≡ size graph.now }
         requires seen { All (λ pair. pair.0.0 < length self.old.numbers.items) seen.now }
-        ensures updated { (st : Setting) (part : FullPart) (s : ScopeId) (f : ℕ → Option ℕ) (entry : Entry) →
-            IsSetting st → st.graph ≡ graph.now → st.owner ≡ owner_in owner.now → st.owner v.0 ≡ me.0 →
+        ensures updated { (st : Setting) (part : FullPart) (s : ScopeId) (f : ℕ →
+            Option ℕ) (entry : Entry) →
+            IsSetting st → st.graph ≡ graph.now →
+            st.owner ≡ owner_in owner.now → st.owner v.0 ≡ me.0 →
             HasNumbers st me.0 self.old part → IsSeenList seen.now f → AreOfScope st v.0 f →
             let p = P.meaning program.now in let lent = lent_full f part in
-            OnOk result (HasNumbers st me.0 self.new (updated_full st p me.0 s v.0 lent entry part)) }
+            OnOk result (HasNumbers st me.0 self.new
+            (updated_full st p me.0 s v.0 lent entry part)) }
         ensures woken { (st : Setting) (part : FullPart) (f : ℕ → Option ℕ) →
-            IsSetting st → st.graph ≡ graph.now → st.owner ≡ owner_in owner.now → st.owner v.0 ≡ me.0 →
+            IsSetting st → st.graph ≡ graph.now →
+            st.owner ≡ owner_in owner.now → st.owner v.0 ≡ me.0 →
             HasNumbers st me.0 self.old part → IsSeenList seen.now f → AreOfScope st v.0 f →
             let p = P.meaning program.now in let lent = lent_full f part in
-            IfOk result (λ woken. (u : ℕ) → full_wakes st.graph p lent v.0 u ≡ is_woken woken (halves_of st.graph v.0) u) }
+            IfOk result (λ woken. (u : ℕ) →
+            full_wakes st.graph p lent v.0 u ≡ is_woken woken (halves_of st.graph v.0) u) }
         ensures same_edges { OnErr result (self.new.edges.items ≡ self.old.edges.items) }
         ensures same_tasks { OnErr result (self.new.tasks.items ≡ self.old.tasks.items) }
     {
@@ -132,16 +139,21 @@ fn update_lists<P: FullProgram>(
     requires edge_count { length edges.old ≡ length graph.now.edges }
     requires task_count { length tasks.old ≡ size graph.now }
     requires seen { All (λ pair. pair.0.0 < length numbers.old) seen.now }
-    ensures updated { (st : Setting) (part : FullPart) (s : ScopeId) (f : ℕ → Option ℕ) (entry : Entry) →
+    ensures updated { (st : Setting) (part : FullPart) (s : ScopeId) (f : ℕ →
+        Option ℕ) (entry : Entry) →
         IsSetting st → st.graph ≡ graph.now → st.owner ≡ owner_in owner.now → st.owner v.0 ≡ me.0 →
-        HasLists st me.0 numbers.old edges.old tasks.old part → IsSeenList seen.now f → AreOfScope st v.0 f →
+        HasLists st me.0 numbers.old edges.old tasks.old part →
+        IsSeenList seen.now f → AreOfScope st v.0 f →
         let p = P.meaning program.now in let lent = lent_full f part in
-        OnOk result (HasLists st me.0 numbers.new edges.new tasks.new (updated_full st p me.0 s v.0 lent entry part)) }
+        OnOk result (HasLists st me.0 numbers.new edges.new tasks.new
+        (updated_full st p me.0 s v.0 lent entry part)) }
     ensures woken { (st : Setting) (part : FullPart) (f : ℕ → Option ℕ) →
         IsSetting st → st.graph ≡ graph.now → st.owner ≡ owner_in owner.now → st.owner v.0 ≡ me.0 →
-        HasLists st me.0 numbers.old edges.old tasks.old part → IsSeenList seen.now f → AreOfScope st v.0 f →
+        HasLists st me.0 numbers.old edges.old tasks.old part →
+        IsSeenList seen.now f → AreOfScope st v.0 f →
         let p = P.meaning program.now in let lent = lent_full f part in
-        IfOk result (λ woken. (u : ℕ) → full_wakes st.graph p lent v.0 u ≡ is_woken woken (halves_of st.graph v.0) u) }
+        IfOk result (λ woken. (u : ℕ) →
+        full_wakes st.graph p lent v.0 u ≡ is_woken woken (halves_of st.graph v.0) u) }
     ensures same_edges { OnErr result (edges.new ≡ edges.old) }
     ensures same_tasks { OnErr result (tasks.new ≡ tasks.old) }
     ensures count_left { length numbers.new ≡ length numbers.old }
@@ -165,11 +177,13 @@ fn finish(
     woken: Woken,
 )
     requires vertex { v.0 < length tasks.old }
-    requires ends { (i : ℕ) → i < length halves.now → (nth_half halves.now i).other.0 < length tasks.old }
+    requires ends { (i : ℕ) → i < length halves.now →
+        (nth_half halves.now i).other.0 < length tasks.old }
     requires owners { length owner.now ≡ length tasks.old }
     ensures count { length tasks.new ≡ length tasks.old }
     ensures marked { (u : ℕ) → u < length tasks.old → is_marked tasks.new u
-        ≡ (wakes_own (owner_in owner.now) me.0 woken halves.now u || (is_marked tasks.old u && not (u == v.0))) }
+        ≡ (wakes_own (owner_in owner.now) me.0 woken halves.now
+        u || (is_marked tasks.old u && not (u == v.0))) }
 {
     tasks[v.0 as usize] = false;
     for half in halves {
@@ -253,8 +267,9 @@ mod tests {
         }
     }
 
-    /// Vertices 1 to 4 in a line on two machines. Vertex 3 is matched with 2, which the other machine owns:
-    /// what the home has then, and what the other machine has when it was given its part.
+    /// Vertices 1 to 4 in a line on two machines. Vertex 3 is matched with 2, which the other
+    /// machine owns: what the home has then, and what the other machine has when it was given its
+    /// part.
     #[test]
     fn matches_over_two_machines(rt: HostRuntime) {
         let alloc = rt.alloc();

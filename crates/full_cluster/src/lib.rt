@@ -1,4 +1,5 @@
-//! Parts of a machine whose updates write their whole scopes: its locks, and an update on the numbers that it has.
+//! Parts of a machine whose updates write their whole scopes: its locks, and an update on the
+//! numbers that it has.
 #![tactic(auto)]
 
 mod kept;

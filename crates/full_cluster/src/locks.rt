@@ -51,7 +51,8 @@ impl WholeLock {
     pub fn grant(&mut self) -> Option<ScopeId>
         ensures granted { IfSome result (λ s. IsGrantedTo self.old self.new s) }
         ensures not_now { result ≡ None → IsUngrantable self.old }
-        ensures unchanged { result ≡ None → (self.new.holder ≡ self.old.holder) × (self.new.queue.items ≡ self.old.queue.items) }
+        ensures unchanged { result ≡ None → (self.new.holder ≡ self.old.holder) ×
+            (self.new.queue.items ≡ self.old.queue.items) }
     {
         if self.holder.is_some() {
             return None;

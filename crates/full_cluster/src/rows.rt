@@ -13,7 +13,8 @@ use update_api::Direction;
 
 /// The links of half-edges, each at its half's place.
 pub fn links_of(alloc: Global, graph: &Graph, halves: &[Half]) -> Result<Vec<FullLink>, NoMemory>
-    requires ends { (i : ℕ) → i < length halves.now → (nth_half halves.now i).other.0 < size graph.now }
+    requires ends { (i : ℕ) → i < length halves.now →
+        (nth_half halves.now i).other.0 < size graph.now }
     requires lead { All (λ half. (half.out || half.into) ≡ true) halves.now }
     ensures { IfOk result (λ links. AreLinksOf graph.now halves.now links.items) }
 {
@@ -51,8 +52,10 @@ pub fn row_along(
     numbers: &[u64],
     edges: &[u64],
 ) -> Result<Vec<u64>, NoMemory>
-    requires ends { (i : ℕ) → i < length halves.now → (nth_half halves.now i).other.0 < length numbers.now }
-    requires edges { (i : ℕ) → i < length halves.now → (nth_half halves.now i).edge.0 < length edges.now }
+    requires ends { (i : ℕ) → i < length halves.now →
+        (nth_half halves.now i).other.0 < length numbers.now }
+    requires edges { (i : ℕ) → i < length halves.now →
+        (nth_half halves.now i).edge.0 < length edges.now }
     ensures { IfOk result (λ row. IsRowAlong halves.now numbers.now edges.now row.items) }
 {
     let mut row = Vec::new(alloc);
@@ -67,7 +70,8 @@ pub fn row_along(
 
 /// The other end of each half-edge gets its number of the row.
 pub fn write_ends(numbers: &mut [u64], halves: &[Half], row: &[u64])
-    requires ends { (i : ℕ) → i < length halves.now → (nth_half halves.now i).other.0 < length numbers.old }
+    requires ends { (i : ℕ) → i < length halves.now →
+        (nth_half halves.now i).other.0 < length numbers.old }
     requires row { length row.now ≡ length halves.now + length halves.now }
     ensures count { length numbers.new ≡ length numbers.old }
     ensures written { ComesFrom (λ i. (nth_half halves.now i).other.0) (slice_index row.now)
@@ -80,10 +84,12 @@ pub fn write_ends(numbers: &mut [u64], halves: &[Half], row: &[u64])
 
 /// Each edge gets its number of the row, behind those of the other ends.
 pub fn write_edges(edges: &mut [u64], halves: &[Half], row: &[u64])
-    requires edges { (i : ℕ) → i < length halves.now → (nth_half halves.now i).edge.0 < length edges.old }
+    requires edges { (i : ℕ) → i < length halves.now →
+        (nth_half halves.now i).edge.0 < length edges.old }
     requires row { length row.now ≡ length halves.now + length halves.now }
     ensures count { length edges.new ≡ length edges.old }
-    ensures written { ComesFrom (λ i. (nth_half halves.now i).edge.0) (λ i. slice_index row.now (length halves.now + i))
+    ensures written { ComesFrom (λ i. (nth_half halves.now i).edge.0) (λ i.
+        slice_index row.now (length halves.now + i))
         (length halves.now) edges.old edges.new }
 {
     let count = halves.len();

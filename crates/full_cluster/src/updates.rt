@@ -16,8 +16,8 @@ use graph_core::{Graph, Half};
 use std::alloc::Global;
 use update_api::Woken;
 
-/// Updates a vertex, and answers whom the update wakes. The lists have the numbers of all vertices and of
-/// all edges. After `NoMemory` they are unchanged.
+/// Updates a vertex, and answers whom the update wakes. The lists have the numbers of all vertices
+/// and of all edges. After `NoMemory` they are unchanged.
 pub fn update_at<P: FullProgram>(
     alloc: Global,
     graph: &Graph,
@@ -31,11 +31,14 @@ pub fn update_at<P: FullProgram>(
     requires count { length numbers.old ≡ size graph.now }
     requires edge_count { length edges.old ≡ length graph.now.edges }
     ensures numbers { let s = state_in numbers.old edges.old in let p = P.meaning program.now in
-        IfOk result (λ woken. AreNumbers (size graph.now) (after_full graph.now p s v.0).vertex numbers.new) }
+        IfOk result (λ woken.
+        AreNumbers (size graph.now) (after_full graph.now p s v.0).vertex numbers.new) }
     ensures edges { let s = state_in numbers.old edges.old in let p = P.meaning program.now in
-        IfOk result (λ woken. AreNumbers (length graph.now.edges) (after_full graph.now p s v.0).edge edges.new) }
+        IfOk result (λ woken.
+        AreNumbers (length graph.now.edges) (after_full graph.now p s v.0).edge edges.new) }
     ensures woken { let s = state_in numbers.old edges.old in let p = P.meaning program.now in
-        IfOk result (λ woken. (u : ℕ) → full_wakes graph.now p s v.0 u ≡ is_woken woken (halves_of graph.now v.0) u) }
+        IfOk result (λ woken. (u : ℕ) →
+        full_wakes graph.now p s v.0 u ≡ is_woken woken (halves_of graph.now v.0) u) }
     ensures unchanged { OnErr result ((numbers.new ≡ numbers.old) × (edges.new ≡ edges.old)) }
 {
     let _n = graph.n();
