@@ -1,6 +1,6 @@
 //! What the coordinator's seat does.
-ghost use Rattle.std.specs.Prelude.{◌≡◌, List, IsErrOf};
-ghost use Rattle.coordinator.specs.coord_core.Calls.{IsReadyToRecord, MayLeadBegin, MayLeadRecord, MayNotBegin, MayNotPutStep, MayNotPutWave, MayPutStep, MayPutWave};
+ghost use Rattle.std.specs.Prelude.{◌≡◌, List, IsErrOf, OnOk};
+ghost use Rattle.coordinator.specs.coord_core.Calls.{HasBegunNext, HasPutStep, HasPutWave, HasRecorded, IsReadyToRecord, MayLeadBegin, MayLeadRecord, MayNotBegin, MayNotPutStep, MayNotPutWave, MayPutStep, MayPutWave};
 ghost use Rattle.wire_board.specs.Seats.{Leads};
 
 use crate::boards::Board;
@@ -23,6 +23,8 @@ impl<M: SavingMachine> Board<M> {
         ensures sits { (others : List (Seated M)) → Leads lead.old others place.old.seat.me →
             Leads lead.new others place.new.seat.me }
         ensures number { lead.new.number ≡ lead.old.number }
+        ensures begun { OnOk result (MayLeadBegin lead.old.coordinator ×
+            HasBegunNext lead.old.coordinator lead.new.coordinator) }
         ensures not_now { IsErrOf result Refused.NotNow → MayNotBegin lead.old.coordinator }
         ensures no_memory { IsErrOf result Refused.NoMemory → MayLeadBegin lead.old.coordinator }
     {
@@ -43,6 +45,8 @@ impl<M: SavingMachine> Board<M> {
         ensures sits { (others : List (Seated M)) → Leads lead.old others place.old.seat.me →
             Leads lead.new others place.new.seat.me }
         ensures number { lead.new.number ≡ lead.old.number }
+        ensures put_out { OnOk result (MayPutStep lead.old.coordinator ×
+            HasPutStep lead.old.coordinator lead.new.coordinator) }
         ensures not_now { IsErrOf result Refused.NotNow → MayNotPutStep lead.old.coordinator }
         ensures no_memory { IsErrOf result Refused.NoMemory → MayPutStep lead.old.coordinator }
     {
@@ -63,6 +67,8 @@ impl<M: SavingMachine> Board<M> {
         ensures sits { (others : List (Seated M)) → Leads lead.old others place.old.seat.me →
             Leads lead.new others place.new.seat.me }
         ensures number { lead.new.number ≡ lead.old.number }
+        ensures put_out { OnOk result (MayPutWave lead.old.coordinator ×
+            HasPutWave lead.old.coordinator lead.new.coordinator) }
         ensures not_now { IsErrOf result Refused.NotNow → MayNotPutWave lead.old.coordinator }
         ensures no_memory { IsErrOf result Refused.NoMemory → MayPutWave lead.old.coordinator }
     {
@@ -81,6 +87,7 @@ impl<M: SavingMachine> Board<M> {
         ensures sits { (others : List (Seated M)) → Leads lead.old others place.old.seat.me →
             Leads lead.new others place.new.seat.me }
         ensures number { lead.new.number ≡ lead.old.number }
+        ensures recorded { HasRecorded lead.old.coordinator lead.new.coordinator }
     {
         lead.coordinator.recorded(number);
         self.table.settle::<Brand, Leading>(place, lead);
