@@ -1,3 +1,3 @@
 pub mod Answers
-pub mod Courses
+pub mod Traces
 pub mod Ends

@@ -3,4 +3,4 @@
 
 mod laws;
 
-pub use laws::{calls_are_runs, courses_are_runs};
+pub use laws::{calls_are_runs, traces_are_runs};

@@ -2,4 +2,4 @@
 //! with locks and with colours.
 mod laws;
 
-pub use laws::{courses_are_attempts, records_are_held};
+pub use laws::{records_are_held, traces_are_attempts};

@@ -1,4 +1,4 @@
-pub mod Courses
+pub mod Traces
 pub mod Events
 pub mod AtOnce
 pub mod Calls

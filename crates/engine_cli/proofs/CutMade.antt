@@ -10,7 +10,7 @@ use Rattle.job_io.specs.declared.job_words.words.Words.{Words}
 use Rattle.job_io.specs.declared.job_words.words.Words.TheVariants.{Cut}
 use Rattle.gl_base.specs.declared.names.Name.{Name}
 use Rattle.job_io.specs.whole_files.AtomNames.{cut_name, cut_names}
-use Rattle.job_io.specs.whole_files.FilesUsed.{HandsOver, ReadsFiles, WritesFiles}
+use Rattle.job_io.specs.whole_files.FilesUsed.{OpensInOrder, ReadsFiles, WritesFiles}
 use Rattle.job_io.specs.whole_files.InTurn.{LeavesFiles, LeavesFronts}
 use Rattle.job_io.specs.graph_files.Cuts.{OfCut}
 use Rattle.job_io.specs.graph_files.Made.{IsFault}
@@ -23,8 +23,8 @@ use Rattle.job_io.specs.job_files.NamesRead.{names_of}
 use Rattle.job_io.proofs.job_files.InputsRead.{of-graph}
 use Rattle.engine_cli.specs.CutJobs.{Cuts, LeavesCutFronts, OfCutJob}
 use Rattle.engine_cli.specs.NamesWritten.{names_at}
-use Rattle.engine_cli.specs.Says.{IsReadable}
-use Rattle.engine_cli.specs.Status.{IsBeforeMaking, IsDoneOrNoMemory, status_of_no_input, status_of_writing}
+use Rattle.engine_cli.specs.StatusMeanings.{IsReadable}
+use Rattle.engine_cli.specs.Status.{IsInputRefusal, IsDoneOrNoMemory, status_of_no_input, status_of_writing}
 use Rattle.engine_cli.specs.Verbs.{IsCutting}
 use Rattle.engine_cli.specs.declared.status.Status.{Status}
 use Rattle.engine_cli.specs.declared.status.Status.TheVariants.{Done}
@@ -92,17 +92,17 @@ module _ (old mid new : FilesState) (file : List ℕ) (input : Input) (prefix : 
 
   -- the cut was written, or not to its end
   pub cut-ends : (status : Status) → Cuts file old new status → ((new.contents ≡ mid.contents) ⊎ OfCut input.graph atoms (λ text. LeavesFronts (cut_name prefix) text (atoms + 1) mid new))
-      → (IsBeforeMaking status → ⊥) → ((Rose old.sinks.faults new.sinks.faults → ⊥) → IsDoneOrNoMemory status) → IsCutting file old new status
+      → (IsInputRefusal status → ⊥) → ((Rose old.sinks.faults new.sinks.faults → ⊥) → IsDoneOrNoMemory status) → IsCutting file old new status
   cut-ends status says fronts late complete =
       let job = job_view input.job in
       let sources : new.sources ≡ mid.sources = ap (λ (s : FilesState). s.sources) wrote.frame in
       let names : names_at input.job.atoms_at atoms ≡ cut_names prefix atoms = ap (λ (o : Option (List ℕ)). names_at o atoms) named in
-      let handed : HandsOver old.sinks.names new.sinks.names (cut_names prefix atoms) = subst (λ (s : Opened Written). HandsOver s.names new.sinks.names (cut_names prefix atoms)) sinks wrote.handed in
+      let handed : OpensInOrder old.sinks.names new.sinks.names (cut_names prefix atoms) = subst (λ (s : Opened Written). OpensInOrder s.names new.sinks.names (cut_names prefix atoms)) sinks wrote.handed in
       record {
         says = says;
         fronts = fronts-left fronts;
-        sources = subst (λ (s : Opened (Option (List ℕ))). HandsOver old.sources.names s.names (names_of verb.Cut old file)) (sym sources) read.handed;
-        sinks = hands-written-names verb.Cut old new file job is.job (subst (λ (l : List (List ℕ)). HandsOver old.sinks.names new.sinks.names l) (sym names) handed);
+        sources = subst (λ (s : Opened (Option (List ℕ))). OpensInOrder old.sources.names s.names (names_of verb.Cut old file)) (sym sources) read.handed;
+        sinks = hands-written-names verb.Cut old new file job is.job (subst (λ (l : List (List ℕ)). OpensInOrder old.sinks.names new.sinks.names l) (sym names) handed);
         early = λ early. absurd (late early);
         others = λ name apart. wrote.others name (λ in_names. apart (job, is.job, subst (λ (l : List (List ℕ)). Contains l name) (sym names) in_names))
             ∙ ap (λ (c : List ℕ → Option (List ℕ)). c name) contents;

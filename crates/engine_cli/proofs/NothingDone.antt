@@ -11,7 +11,7 @@ use Rattle.engine_cli.specs.declared.ended.Ended.{Ended}
 use Rattle.engine_cli.specs.declared.status.Status.{Status}
 use Rattle.engine_cli.specs.declared.status.Status.TheVariants.{NoMemory}
 use Rattle.engine_cli.specs.JobRuns.{CallLists, lists_of_call, no_lists}
-use Rattle.engine_cli.specs.Says.{Moment}
+use Rattle.engine_cli.specs.StatusMeanings.{Moment}
 use Rattle.engine_cli.specs.Verbs.{IsCall, IsCutting, IsInit, IsMaking, IsRun}
 use Rattle.engine_cli.proofs.NamesHanded.{hands-no-name, hands-no-store}
 use Rattle.engine_cli.proofs.Preparing.{same-images, store-unused}

@@ -21,7 +21,7 @@ use Rattle.seq_run.specs.StepBound.{step_bound}
 use Rattle.job_io.specs.whole_files.AtomNames.{index_name}
 use Rattle.job_io.specs.declared.job_files.jobs.JobVerb.{JobVerb}
 use Rattle.job_io.specs.job_files.Atoms.{FindsInAtoms, HasAtoms, OfJobCut, OfGraph, RefusesAtoms, atom_files, atoms_fault, given_bytes}
-use Rattle.engine_cli.specs.Says.{IsReadable}
+use Rattle.engine_cli.specs.StatusMeanings.{IsReadable}
 use Rattle.engine_cli.specs.declared.status.Status.TheVariants.{Done, Usage, BadJob, BadGraph, BadAtoms, ReadFault, WriteFault, DiskFault, BadStore, BudgetSpent, SnapshotsFull, NoMemory}
 use Rattle.engine_cli.specs.Status.{IsDoneOrNoMemory}
 use Rattle.job_io.specs.job_files.JobTexts.{LacksSource, RefusesEdges, is_weighted, OfJob, OfSaid, OfTexts, RefusesSource, RefusesTexts, DescribeJobGraph, RefusesJob}
@@ -37,7 +37,7 @@ use Rattle.engine_runs.specs.declared.answers.runs.StoredEnd.{StoredEnd}
 use Rattle.engine_runs.specs.declared.answers.runs.StoredEnd.TheVariants as end
 use Rattle.engine_runs.specs.declared.answers.runs.StoredEnd.TheVariants.{Spent}
 use Rattle.update_api.specs.Updates.{Update}
-use Rattle.engine_cli.specs.Says.{HasSoundAtoms, IsSound, Moment, Refuses, Says, SaysOfRun}
+use Rattle.engine_cli.specs.StatusMeanings.{HasSoundAtoms, IsSound, Moment, Refuses, StatusMeaning, RunOutcome}
 use Rattle.job_io.specs.whole_files.FilesUsed.{OfRead}
 use Rattle.job_io.proofs.whole_files.TextsRead.{OfRead-bytes}
 use Rattle.engine_cli.proofs.Bounds.{bound-of, one-more, since-one-more}
@@ -212,7 +212,7 @@ unnamed store none some = absurd (is_no_truth (subst (λ (s : Option (List ℕ))
 
 -- what a valid job without a store and valid texts come to, where a run was made
 run_is_done : (told : Bool) (asked : JobVerb) (file : List ℕ) (report : Bool) (before now : Moment) (tells : List ℕ → Type 0) (lists : CallLists) (status : Status)
-    → SaysOfRun told asked file report before now tells lists status → IsSound asked file before now → IsDoneOrNoMemory status
+    → RunOutcome told asked file report before now tells lists status → IsSound asked file before now → IsDoneOrNoMemory status
 run_is_done told asked file report before now tells lists Done says sound = tt
 run_is_done told asked file report before now tells lists (Usage fault) says sound = says
 run_is_done told asked file report before now tells lists (BadJob fault) says sound = says
@@ -273,7 +273,7 @@ not_refused told asked file before now NoMemory says sound = tt
 
 -- so it is done, or there was not enough memory
 pub sound_is_done : (told : Bool) (asked : JobVerb) (file : List ℕ) (report : Bool) (before now : Moment) (tells : List ℕ → Type 0) (lists : CallLists) (status : Status)
-    → Says told asked file report before now tells lists status → IsSound asked file before now → IsDoneOrNoMemory status
+    → StatusMeaning told asked file report before now tells lists status → IsSound asked file before now → IsDoneOrNoMemory status
 sound_is_done told asked file report before now tells lists status says sound =
     ⊎_elim
     (λ made. run_is_done told asked file report before now tells lists status made sound)

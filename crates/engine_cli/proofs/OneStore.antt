@@ -18,7 +18,7 @@ use Rattle.engine_cli.specs.declared.status.Status.{Status}
 use Rattle.engine_cli.specs.declared.status.Status.TheVariants.{Done, Usage, BadJob, BadGraph, BadAtoms, ReadFault, WriteFault, DiskFault, BadStore, BudgetSpent, SnapshotsFull, NoMemory}
 use Rattle.engine_cli.specs.JobRuns.{CallLists, GoesOnFrom, MakesRun, RunsOnStore, RunsSo, is_resumed, records_size, shared_by, snapshots_on}
 use Rattle.engine_cli.specs.JobStores.{IsNotRunFrom, IsOtherStore, OfStoredJob, RefusesStore}
-use Rattle.engine_cli.specs.Says.{EndsRun, HasSoundStore, HasStoreOfJob, IsReadable, IsSoundOnStore, Moment, Refuses, Says, SaysOfRun}
+use Rattle.engine_cli.specs.StatusMeanings.{EndsRun, HasSoundStore, HasStoreOfJob, IsReadable, IsSoundOnStore, Moment, Refuses, StatusMeaning, RunOutcome}
 use Rattle.engine_cli.specs.Status.{IsDoneOrNoMemory}
 use Rattle.engine_cli.proofs.OneGraph.{no_bad_atoms, no_bad_graph, no_bad_job, of_said, of_texts}
 use Rattle.engine_cli.proofs.StoreRuns.{one_store}
@@ -112,7 +112,7 @@ module _ (told : Bool) (asked : JobVerb) (file : List ℕ) (before now : Moment)
     unfilled stored length same = goes.roomy store.room stored length (made.ended ∙ same)
 
   -- what it comes to where a run was made
-  run_is_done : (report : Bool) (tells : List ℕ → Type 0) (lists : CallLists) (status : Status) → SaysOfRun told asked file report before now tells lists status → IsDoneOrNoMemory status
+  run_is_done : (report : Bool) (tells : List ℕ → Type 0) (lists : CallLists) (status : Status) → RunOutcome told asked file report before now tells lists status → IsDoneOrNoMemory status
   run_is_done report tells lists Done says = tt
   run_is_done report tells lists (Usage fault) says = says
   run_is_done report tells lists (BadJob fault) says = says
@@ -153,5 +153,5 @@ module _ (told : Bool) (asked : JobVerb) (file : List ℕ) (before now : Moment)
   not_refused NoMemory says = tt
 
   -- so it is done, or there was not enough memory
-  pub sound_on_store_is_done : (report : Bool) (tells : List ℕ → Type 0) (lists : CallLists) (status : Status) → Says told asked file report before now tells lists status → IsDoneOrNoMemory status
+  pub sound_on_store_is_done : (report : Bool) (tells : List ℕ → Type 0) (lists : CallLists) (status : Status) → StatusMeaning told asked file report before now tells lists status → IsDoneOrNoMemory status
   sound_on_store_is_done report tells lists status says = ⊎_elim (λ made. run_is_done report tells lists status made) (λ refused. not_refused status refused.1) says

@@ -22,7 +22,7 @@ use Rattle.job_io.specs.job_files.Atoms.{IsCutAt, IsCutOf, OfJobCut}
 use Rattle.job_io.specs.job_files.Inputs.{IsInputFrom, IsRunInput, RefusesEarly}
 use Rattle.job_io.specs.job_files.DoableJobs.{agreeing, clash_of, doable, unless_key}
 use Rattle.job_io.specs.job_files.JobTexts.{SaysJob}
-use Rattle.job_io.specs.job_files.NamesRead.{HandsForRun, names_of}
+use Rattle.job_io.specs.job_files.NamesRead.{RunOpens, names_of}
 use Rattle.job_io.specs.declared.job_files.inputs.Input.{Input}
 use Rattle.job_io.specs.declared.job_files.inputs.NoInput.{NoInput}
 use Rattle.job_io.specs.declared.job_files.inputs.NoInput.TheVariants as why
@@ -31,19 +31,19 @@ use Rattle.job_io.specs.declared.job_files.jobs.JobVerb.TheVariants as verb
 use Rattle.job_io.proofs.job_files.InputsRead.{of-graph}
 use Rattle.job_io.specs.job_stores.JobHeaders.{header_for}
 use Rattle.job_io.specs.job_stores.NewStores.{IfDisksTold, UsesDisk}
-use Rattle.job_io.specs.declared.job_stores.making.NoStore.{NoStore}
-use Rattle.job_io.specs.declared.job_stores.making.NoStore.TheVariants as no_store
+use Rattle.job_io.specs.declared.job_stores.making.StoreError.{StoreError}
+use Rattle.job_io.specs.declared.job_stores.making.StoreError.TheVariants as no_store
 use Rattle.job_io.proofs.job_stores.DisksUsed.{always-told}
 use Rattle.engine_runs.specs.declared.answers.runs.StoredRun.{StoredRun}
-use Rattle.job_io.specs.whole_files.FilesUsed.{HandsOver}
-use Rattle.engine_cli.specs.Inner.Prepares.{ChangesInput, IsOfRun, IsWhyNoneMade, UsesNamed}
-use Rattle.engine_cli.specs.Inner.Storing.{IsWhyNoStoredRun}
+use Rattle.job_io.specs.whole_files.FilesUsed.{OpensInOrder}
+use Rattle.engine_cli.specs.Inner.Prepares.{ChangesInput, IsOfRun, RunInputErrorCause, UsesNamed}
+use Rattle.engine_cli.specs.Inner.Storing.{RunOnStoreErrorCause}
 use Rattle.engine_cli.specs.JobRuns.{RunsOnStore, RunsSo, is_resumed}
 use Rattle.engine_cli.specs.JobStores.{IsNotRunFrom, KeepsAllImages, KeepsGoing, KeepsImages, NamesStore, OfStoredJob, RefusesStore, UsesStore}
 use Rattle.engine_cli.specs.NamesWritten.{order_names}
 use Rattle.engine_cli.specs.Plays.{HasEdgesFor}
-use Rattle.engine_cli.specs.Says.{Refuses}
-use Rattle.engine_cli.specs.Status.{IsBeforeMaking, IsRefusedInput, status_of_no_input, status_of_no_store}
+use Rattle.engine_cli.specs.StatusMeanings.{Refuses}
+use Rattle.engine_cli.specs.Status.{IsInputRefusal, IsRefusedInput, status_of_no_input, status_of_no_store}
 use Rattle.engine_cli.proofs.DisksLeft.{leaves-same}
 use Rattle.engine_cli.proofs.NamesHanded.{hands-no-store, hands-store}
 
@@ -118,7 +118,7 @@ input-refuses told asked file old new why.NoMemory is frame = inl (same-images t
 
 -- the names of files that were read, where it is the job or its graph that is refused
 pub input-names : (asked : JobVerb) (file : List ℕ) (old new : FilesState) (cause : NoInput) → RefusesEarly asked file old new (let r : Result Input NoInput = Err cause in r)
-    → IsRefusedInput (status_of_no_input cause) → HandsOver old.sources.names new.sources.names (names_of asked old file)
+    → IsRefusedInput (status_of_no_input cause) → OpensInOrder old.sources.names new.sources.names (names_of asked old file)
 input-names asked file old new (why.BadJob fault) hands refused = hands
 input-names asked file old new (why.BadGraph fault) hands refused = hands
 input-names asked file old new (why.BadAtoms fault) hands refused = absurd refused
@@ -126,7 +126,7 @@ input-names asked file old new why.ReadFault hands refused = absurd refused
 input-names asked file old new why.NoMemory hands refused = absurd refused
 
 -- what is refused for its store was not refused before it was opened
-pub store-late : (cause : NoStore) → (IsBeforeMaking (status_of_no_store cause) → ⊥) × (IsRefusedInput (status_of_no_store cause) → ⊥)
+pub store-late : (cause : StoreError) → (IsInputRefusal (status_of_no_store cause) → ⊥) × (IsRefusedInput (status_of_no_store cause) → ⊥)
 store-late (no_store.BadStore fault) = (λ early. early, λ refused. refused)
 store-late no_store.DiskFault = (λ early. early, λ refused. refused)
 store-late no_store.NoMemory = (λ early. early, λ refused. refused)
@@ -172,8 +172,8 @@ module _ (told : Bool) (asked : JobVerb) (file : List ℕ) (old mid new : FilesS
   sources None used = ap (λ (s : FilesState). s.sources) used
   sources (Some name) used = ap (λ (s : FilesState). s.sources) used.frame
 
-  pub handed-used : (store : Option (List ℕ)) → UsesNamed store mid new → HandsForRun asked old mid file → HandsForRun asked old new file
-  handed-used store used handed = subst (λ (s : Opened (Option (List ℕ))). HandsForRun asked old (record mid { sources = s }) file) (sym (sources store used)) handed
+  pub handed-used : (store : Option (List ℕ)) → UsesNamed store mid new → RunOpens asked old mid file → RunOpens asked old new file
+  handed-used store used handed = subst (λ (s : Opened (Option (List ℕ))). RunOpens asked old (record mid { sources = s }) file) (sym (sources store used)) handed
 
   pub reads-used : (store : Option (List ℕ)) → UsesNamed store mid new → old.sources.faults ≤ mid.sources.faults → old.sources.faults ≤ new.sources.faults
   reads-used store used later = subst (λ (s : Opened (Option (List ℕ))). old.sources.faults ≤ s.faults) (sym (sources store used)) later
@@ -185,10 +185,10 @@ module _ (told : Bool) (asked : JobVerb) (file : List ℕ) (old mid new : FilesS
       go None is used = store-unused asked file old new (subst (λ (s : FilesState). ChangesSources old s) (sym used) frame)
       go (Some name) is used =
           let names : order_names job.fields.store ≡ name ∷ [] = ap order_names is in
-          let handed : HandsOver old.disks.names new.disks.names (name ∷ []) = subst (λ (d : Opened (Option (List ℕ))). HandsOver d.names new.disks.names (name ∷ [])) disks used.handed in
+          let handed : OpensInOrder old.disks.names new.disks.names (name ∷ []) = subst (λ (d : Opened (Option (List ℕ))). OpensInOrder d.names new.disks.names (name ∷ [])) disks used.handed in
           let some : IsTrue (is_some job.fields.store) = subst (λ (s : Option (List ℕ)). IsTrue (is_some s)) (sym is) refl in
           record {
-            handed = hands-store asked old new file job says (subst (λ (l : List (List ℕ)). HandsOver old.disks.names new.disks.names l) (sym names) handed);
+            handed = hands-store asked old new file job says (subst (λ (l : List (List ℕ)). OpensInOrder old.disks.names new.disks.names l) (sym names) handed);
             others = λ other apart. used.others other (λ e. apart (job, says, is ∙ ap (λ (n : List ℕ). Some n) (sym e))) ∙ ap (λ (p : List ℕ → DiskPast). p other) pasts;
             unless = inr (job, says, some);
             later = omega (arith, ap (λ (s : FilesState). s.disks.faults) frame, used.later);
@@ -247,7 +247,7 @@ module _ (told : Bool) (asked : JobVerb) (file : List ℕ) (old mid new : FilesS
     names-store name named = (job, is.job, subst (λ (s : Option (List ℕ)). IsTrue (is_some s)) (sym named) refl)
 
     -- no run was made on it
-    stored-refuses : (name : List ℕ) (cause : NoStore) → job.fields.store ≡ Some name → UsesDisk name mid new → IsWhyNoStoredRun told (is_resumed asked) name input mid new cause
+    stored-refuses : (name : List ℕ) (cause : StoreError) → job.fields.store ≡ Some name → UsesDisk name mid new → RunOnStoreErrorCause told (is_resumed asked) name input mid new cause
         → Refuses told asked file old new (status_of_no_store cause)
     stored-refuses name (no_store.BadStore fault) named used refused =
         let R : DiskPast → Type 0 = λ p. RefusesStore (is_resumed asked) (header_for job.fields input.graph) p.now.seen fault in
@@ -270,20 +270,20 @@ module _ (told : Bool) (asked : JobVerb) (file : List ℕ) (old mid new : FilesS
         (λ going. inr (of-store name named (λ n j g. OfJobCut old j.fields g (λ c. IfDisksTold told old (KeepsGoing j g c (old.pasts n) (new.pasts n)))) (input.cut, cut, going)))
         (either (KeepsImages (old.pasts name) (new.pasts name)) (KeepsGoing job input.graph input.cut (old.pasts name) (new.pasts name)) said)
 
-    pub none-made : (cause : NoStore) → UsesNamed job.fields.store mid new → IsWhyNoneMade told asked input mid new job.fields.store cause → Refuses told asked file old new (status_of_no_store cause)
+    pub none-made : (cause : StoreError) → UsesNamed job.fields.store mid new → RunInputErrorCause told asked input mid new job.fields.store cause → Refuses told asked file old new (status_of_no_store cause)
     none-made cause used refused = go job.fields.store refl used refused
       where
-        go : (store : Option (List ℕ)) → job.fields.store ≡ store → UsesNamed store mid new → IsWhyNoneMade told asked input mid new store cause → Refuses told asked file old new (status_of_no_store cause)
+        go : (store : Option (List ℕ)) → job.fields.store ≡ store → UsesNamed store mid new → RunInputErrorCause told asked input mid new store cause → Refuses told asked file old new (status_of_no_store cause)
         go None named used refused =
-            let N : NoStore → Type 0 = λ w. Refuses told asked file old new (status_of_no_store w) in
+            let N : StoreError → Type 0 = λ w. Refuses told asked file old new (status_of_no_store w) in
             subst N (sym refused) (inl (same-images told old new.pasts (ap (λ (s : FilesState). s.pasts) used ∙ pasts)))
         go (Some name) named used refused = stored-refuses name cause named used refused
 
 -- why there is no run on the store that the job names
-pub none-on-store : (told : Bool) (asked : JobVerb) (resumed : Bool) (input : Input) (old new : FilesState) (store : Option (List ℕ)) (name opened : List ℕ) (cause : NoStore)
-    → store ≡ Some name → opened ≡ name → resumed ≡ is_resumed asked → IsWhyNoStoredRun told resumed opened input old new cause → IsWhyNoneMade told asked input old new store cause
+pub none-on-store : (told : Bool) (asked : JobVerb) (resumed : Bool) (input : Input) (old new : FilesState) (store : Option (List ℕ)) (name opened : List ℕ) (cause : StoreError)
+    → store ≡ Some name → opened ≡ name → resumed ≡ is_resumed asked → RunOnStoreErrorCause told resumed opened input old new cause → RunInputErrorCause told asked input old new store cause
 none-on-store told asked resumed input old new store name opened cause named spelled is why =
-    let S : Option (List ℕ) → Type 0 = λ s. IsWhyNoneMade told asked input old new s cause in
-    let N : List ℕ → Type 0 = λ n. IsWhyNoStoredRun told (is_resumed asked) n input old new cause in
-    let R : Bool → Type 0 = λ r. IsWhyNoStoredRun told r opened input old new cause in
+    let S : Option (List ℕ) → Type 0 = λ s. RunInputErrorCause told asked input old new s cause in
+    let N : List ℕ → Type 0 = λ n. RunOnStoreErrorCause told (is_resumed asked) n input old new cause in
+    let R : Bool → Type 0 = λ r. RunOnStoreErrorCause told r opened input old new cause in
     subst S (sym named) (subst N spelled (subst R is why))

@@ -14,12 +14,12 @@ use Rattle.job_io.specs.job_config.Fields.{JobFields}
 use Rattle.job_io.specs.job_config.Jobs.{JobSayings}
 use Rattle.job_io.specs.job_config.Views.{job_view}
 use Rattle.job_io.specs.job_files.JobTexts.{DescribeJobGraph, SaysJob}
-use Rattle.job_io.specs.job_files.NamesRead.{HandsForRun, names_of}
+use Rattle.job_io.specs.job_files.NamesRead.{RunOpens, names_of}
 use Rattle.job_io.specs.declared.job_files.jobs.JobVerb.{JobVerb}
 use Rattle.job_io.specs.declared.job_files.jobs.JobVerb.TheVariants as verb
 use Rattle.engine_runs.specs.declared.answers.runs.StoredEnd.{StoredEnd}
 use Rattle.engine_runs.specs.declared.answers.runs.StoredEnd.TheVariants as end
-use Rattle.job_io.specs.whole_files.FilesUsed.{HandsOver, WritesFiles}
+use Rattle.job_io.specs.whole_files.FilesUsed.{OpensInOrder, WritesFiles}
 use Rattle.job_io.specs.whole_files.Leaves.{KeepsOrGives}
 use Rattle.job_io.proofs.whole_files.TextsRead.{OfRead-two}
 use Rattle.engine_cli.specs.declared.running.Prepared.{Prepared}
@@ -31,8 +31,8 @@ use Rattle.engine_cli.specs.Inner.Printing.{Prints, printed_of}
 use Rattle.engine_cli.specs.JobRuns.{CallLists, MakesRun, RunsOnStore, RunsSo, is_resumed, lists_of_run}
 use Rattle.engine_cli.specs.JobStores.{KeepsAllImages, KeepsGoing, RunsOutOnStore, UsesStore}
 use Rattle.engine_cli.specs.NamesWritten.{names_for, order_names}
-use Rattle.engine_cli.specs.Says.{EndsRun, FailsAtOrder, FailsAtOut, LeavesOrder, Moment, PrintsAnswer, Says, SaysOfRun}
-use Rattle.engine_cli.specs.Status.{IsBeforeMaking, IsBeforeWriting, IsRefusedInput}
+use Rattle.engine_cli.specs.StatusMeanings.{EndsRun, FailsAtOrder, FailsAtOut, LeavesOrder, Moment, PrintsAnswer, StatusMeaning, RunOutcome}
+use Rattle.engine_cli.specs.Status.{IsInputRefusal, IsBeforeWriting, IsRefusedInput}
 use Rattle.engine_cli.specs.StoreJobs.{HandsStore}
 use Rattle.engine_cli.specs.Verbs.{IsRun}
 use Rattle.job_io.specs.job_files.Atoms.{OfJobCut}
@@ -152,7 +152,7 @@ since-sinks before mid since = ap (λ (s : FilesState). s.sinks) since.frame
 pub print-says : (told : Bool) (asked : JobVerb) (file : List ℕ) (report : Bool) (prepared : Prepared) (before mid now : Moment) (bytes : Vec ℕ Global)
     → IsPreparedFrom told asked before.files mid.files file prepared → prepared.run.end ≡ end.Finished → IsSince before mid → now.files.pasts ≡ mid.files.pasts
     → Prints (Ok bytes) (job_view prepared.job).fields.order (printed_of report prepared) mid now
-    → Says told asked file report before now (λ told. bytes.items ≡ told) (lists_of_run prepared.run) Done
+    → StatusMeaning told asked file report before now (λ told. bytes.items ≡ told) (lists_of_run prepared.run) Done
 print-says told asked file report prepared before mid now bytes is finished since same prints =
     inl (answers told asked before.files mid.files file prepared is now.files.pasts same report
     (λ name printed. Appends before.held now.held printed.answer × (bytes.items ≡ printed.report) × LeavesOrder name before now printed.lines) finished (
@@ -165,7 +165,7 @@ print-says told asked file report prepared before mid now bytes is finished sinc
 pub print-fails : (told : Bool) (asked : JobVerb) (file : List ℕ) (report : Bool) (prepared : Prepared) (before mid now : Moment) (tells : List ℕ → Type 0)
     → IsPreparedFrom told asked before.files mid.files file prepared → prepared.run.end ≡ end.Finished → IsSince before mid → now.files.pasts ≡ mid.files.pasts
     → Prints (Err WriteFaultAtOut) (job_view prepared.job).fields.order (printed_of report prepared) mid now
-    → Says told asked file report before now tells (lists_of_run prepared.run) WriteFault
+    → StatusMeaning told asked file report before now tells (lists_of_run prepared.run) WriteFault
 print-fails told asked file report prepared before mid now tells is finished since same prints =
     let order = (job_view prepared.job).fields.order in
     let printed = printed_of report prepared in
@@ -177,11 +177,11 @@ print-fails told asked file report prepared before mid now tells is finished sin
 
 -- what a run says that left a task
 pub unfinished-says : (told : Bool) (asked : JobVerb) (file : List ℕ) (report : Bool) (before now : Moment) (tells : List ℕ → Type 0) (prepared : Prepared) (status : Status)
-    → IsPreparedFrom told asked before.files now.files file prepared → unfinished_status prepared.run.end ≡ Some status → Says told asked file report before now tells (lists_of_run prepared.run) status
+    → IsPreparedFrom told asked before.files now.files file prepared → unfinished_status prepared.run.end ≡ Some status → StatusMeaning told asked file report before now tells (lists_of_run prepared.run) status
 unfinished-says told asked file report before now tells prepared status is left = inl (go prepared.run.end refl left)
   where
     S : Status → Type 0
-    S = SaysOfRun told asked file report before now tells (lists_of_run prepared.run)
+    S = RunOutcome told asked file report before now tells (lists_of_run prepared.run)
 
     same_some : {a b : Status} → Some a ≡ Some b → a ≡ b
     same_some e = cc
@@ -199,11 +199,11 @@ unfinished-says told asked file report before now tells prepared status is left 
     go end.DiskFault at left = subst S (same_some left) (is.fault at, ended end.DiskFault at)
 
 -- and its status is none of a refusal before the store was opened
-pub unfinished-late : (ending : StoredEnd) (status : Status) → unfinished_status ending ≡ Some status → (IsBeforeMaking status → ⊥) × (IsRefusedInput status → ⊥)
+pub unfinished-late : (ending : StoredEnd) (status : Status) → unfinished_status ending ≡ Some status → (IsInputRefusal status → ⊥) × (IsRefusedInput status → ⊥)
 unfinished-late ending status left = go ending left
   where
     L : Status → Type 0
-    L s = (IsBeforeMaking s → ⊥) × (IsRefusedInput s → ⊥)
+    L s = (IsInputRefusal s → ⊥) × (IsRefusedInput s → ⊥)
 
     same_some : {a b : Status} → Some a ≡ Some b → a ≡ b
     same_some e = cc
@@ -220,7 +220,7 @@ unfinished-late ending status left = go ending left
 -- what is told of an answer may be said in another way
 run-told : (told : Bool) (asked : JobVerb) (file : List ℕ) (report : Bool) (before now : Moment) (tells retells : List ℕ → Type 0) (lists : CallLists) (status : Status)
     → (status ≡ Done → (text : List ℕ) → tells text → retells text)
-    → SaysOfRun told asked file report before now tells lists status → SaysOfRun told asked file report before now retells lists status
+    → RunOutcome told asked file report before now tells lists status → RunOutcome told asked file report before now retells lists status
 run-told told asked file report before now tells retells lists Done same says =
     (says.0, (says.1.0, says.1.1, ((says.1.2.0.0, same refl says.0.report says.1.2.0.1, says.1.2.0.2), says.1.2.1, says.1.2.2)))
 run-told told asked file report before now tells retells lists (Usage fault) same says = says
@@ -240,14 +240,14 @@ run-told told asked file report before now tells retells lists NoMemory same say
 -- What came before printing: at most what is read changed, and the job's store.
 pub record HasRun (asked : JobVerb) (file : List ℕ) (old new : FilesState) : Type 0 where
   pub frame : ChangesInput old new
-  pub handed : HandsForRun asked old new file
+  pub handed : RunOpens asked old new file
   pub used : UsesStore asked file old new
 
 -- What a run leaves that ended before it wrote.
 pub ends-early : (told : Bool) (asked : JobVerb) (file : List ℕ) (report : Bool) (before now : Moment) (tells : List ℕ → Type 0) (lists : CallLists) (status : Status)
-    → Says told asked file report before now tells lists status → HasRun asked file before.files now.files
-    → (IsBeforeMaking status → ChangesSources before.files now.files)
-    → (IsRefusedInput status → HandsOver before.files.sources.names now.files.sources.names (names_of asked before.files file))
+    → StatusMeaning told asked file report before now tells lists status → HasRun asked file before.files now.files
+    → (IsInputRefusal status → ChangesSources before.files now.files)
+    → (IsRefusedInput status → OpensInOrder before.files.sources.names now.files.sources.names (names_of asked before.files file))
     → IsRun told asked file report before now tells lists status
 ends-early told asked file report before now tells lists status says ran early refused =
     let contents = ap (λ (s : FilesState). s.contents) ran.frame in
@@ -285,18 +285,18 @@ store-still asked file old mid new pasts disks used =
 
 -- What a run leaves that came to write.
 pub ends-late : (told : Bool) (asked : JobVerb) (file : List ℕ) (report : Bool) (before mid now : Moment) (tells : List ℕ → Type 0) (job : JobSayings) (lists : CallLists) (status : Status)
-    → IsOfRun asked → Says told asked file report before now tells lists status → HasRun asked file before.files mid.files
+    → IsOfRun asked → StatusMeaning told asked file report before now tells lists status → HasRun asked file before.files mid.files
     → SaysJob asked before.files file job → WritesFiles (order_names job.fields.order) mid.files now.files
-    → (IsBeforeMaking status → ⊥) → (IsRefusedInput status → ⊥) → (IsBeforeWriting status → status ≡ NoMemory) → (IsBeforeWriting status → now.files.contents ≡ mid.files.contents)
+    → (IsInputRefusal status → ⊥) → (IsRefusedInput status → ⊥) → (IsBeforeWriting status → status ≡ NoMemory) → (IsBeforeWriting status → now.files.contents ≡ mid.files.contents)
     → IsRun told asked file report before now tells lists status
 ends-late told asked file report before mid now tells job lists status of_run says ran says_job wrote late not_refused memory kept =
     let contents = ap (λ (s : FilesState). s.contents) ran.frame in
     let sources : now.files.sources ≡ mid.files.sources = ap (λ (s : FilesState). s.sources) wrote.frame in
     let sinks : mid.files.sinks ≡ before.files.sinks = ap (λ (s : FilesState). s.sinks) ran.frame in
-    let Handed : Opened (Option (List ℕ)) → Type 0 = λ s. HandsForRun asked before.files (record mid.files { sources = s }) file in
+    let Handed : Opened (Option (List ℕ)) → Type 0 = λ s. RunOpens asked before.files (record mid.files { sources = s }) file in
     let names : names_for asked job.fields ≡ order_names job.fields.order = written-of-run asked of_run job.fields in
-    let handed : HandsOver before.files.sinks.names now.files.sinks.names (order_names job.fields.order) =
-    subst (λ (s : Opened Written). HandsOver s.names now.files.sinks.names (order_names job.fields.order)) sinks wrote.handed in
+    let handed : OpensInOrder before.files.sinks.names now.files.sinks.names (order_names job.fields.order) =
+    subst (λ (s : Opened Written). OpensInOrder s.names now.files.sinks.names (order_names job.fields.order)) sinks wrote.handed in
     record {
       says = says;
       complete = λ sound. sound_is_done told asked file report before now tells lists status says sound;
@@ -304,7 +304,7 @@ ends-late told asked file report before mid now tells job lists status of_run sa
       sources = subst Handed (sym sources) ran.handed;
       refused = λ refused. absurd (not_refused refused);
       sinks = hands-written-names asked before.files now.files file job says_job
-          (subst (λ (l : List (List ℕ)). HandsOver before.files.sinks.names now.files.sinks.names l) (sym names) handed);
+          (subst (λ (l : List (List ℕ)). OpensInOrder before.files.sinks.names now.files.sinks.names l) (sym names) handed);
       early = λ early. absurd (late early);
       unwritten = λ unwritten other. absurd (other (memory unwritten));
       kept = λ unwritten. kept unwritten ∙ contents;

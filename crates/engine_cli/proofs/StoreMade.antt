@@ -7,7 +7,7 @@ use Rattle.job_io.specs.job_config.Jobs.{JobSayings}
 use Rattle.job_io.specs.job_config.Views.{job_view}
 use Rattle.store.specs.declared.store_format.faults.StoreFault.{StoreFault}
 use Rattle.store.specs.declared.store_format.header.Header.{Header}
-use Rattle.job_io.specs.whole_files.FilesUsed.{HandsOver, ReadsFiles}
+use Rattle.job_io.specs.whole_files.FilesUsed.{OpensInOrder, ReadsFiles}
 use Rattle.job_io.specs.declared.job_files.inputs.Input.{Input}
 use Rattle.job_io.specs.declared.job_files.inputs.NoInput.{NoInput}
 use Rattle.job_io.specs.declared.job_files.inputs.NoInput.TheVariants as why
@@ -17,14 +17,14 @@ use Rattle.job_io.specs.job_files.Inputs.{IsInput, IsInputFrom}
 use Rattle.job_io.specs.job_files.JobTexts.{OfTexts}
 use Rattle.job_io.specs.job_files.NamesRead.{names_of}
 use Rattle.job_io.proofs.job_files.InputsRead.{of-graph}
-use Rattle.job_io.specs.declared.job_stores.making.NoStore.{NoStore}
-use Rattle.job_io.specs.declared.job_stores.making.NoStore.TheVariants as no_store
+use Rattle.job_io.specs.declared.job_stores.making.StoreError.{StoreError}
+use Rattle.job_io.specs.declared.job_stores.making.StoreError.TheVariants as no_store
 use Rattle.job_io.specs.job_stores.JobHeaders.{header_for}
-use Rattle.job_io.specs.job_stores.NewStores.{HasBytes, IfDisksTold, IsNewStore, IsWhyNoStore, KeepsFilledDisks, UsesDisk}
+use Rattle.job_io.specs.job_stores.NewStores.{HasBytes, IfDisksTold, IsNewStore, MakeStoreErrorCause, KeepsFilledDisks, UsesDisk}
 use Rattle.job_io.proofs.job_stores.DisksUsed.{always-told}
 use Rattle.engine_cli.specs.NamesWritten.{order_names}
-use Rattle.engine_cli.specs.Says.{IsReadable}
-use Rattle.engine_cli.specs.Status.{IsBeforeMaking, IsDoneOrNoMemory, status_of_no_input, status_of_no_store}
+use Rattle.engine_cli.specs.StatusMeanings.{IsReadable}
+use Rattle.engine_cli.specs.Status.{IsInputRefusal, IsDoneOrNoMemory, status_of_no_input, status_of_no_store}
 use Rattle.engine_cli.specs.StoreJobs.{HasEmptyStore, MakesStore, OfStoreJob}
 use Rattle.engine_cli.specs.Verbs.{IsInit}
 use Rattle.engine_cli.specs.declared.status.Status.{Status}
@@ -106,18 +106,18 @@ module _ (told : Bool) (old mid new : FilesState) (file : List ℕ) (input : Inp
       let job : JobSayings = job_view input.job in
       (job, is.job, (name, named, of-graph old job.fields input.graph (λ g. P name (header_for job.fields g)) is.texts is.start p))
 
-  init-ends : (status : Status) → MakesStore told file old new status → (IsBeforeMaking status → ⊥)
+  init-ends : (status : Status) → MakesStore told file old new status → (IsInputRefusal status → ⊥)
       → ((given : IsReadable verb.Init old file) → HasEmptyStore told old given.job.fields → (Rose old.disks.faults new.disks.faults → ⊥) → IsDoneOrNoMemory status) → IsInit told file old new status
   init-ends status says late complete =
       let job : JobSayings = job_view input.job in
       let names : order_names input.job.store ≡ name ∷ [] = ap order_names named in
-      let handed : HandsOver old.disks.names new.disks.names (name ∷ []) = subst (λ (d : Opened (Option (List ℕ))). HandsOver d.names new.disks.names (name ∷ [])) disks used.handed in
+      let handed : OpensInOrder old.disks.names new.disks.names (name ∷ []) = subst (λ (d : Opened (Option (List ℕ))). OpensInOrder d.names new.disks.names (name ∷ [])) disks used.handed in
       let faults : mid.disks.faults ≡ old.disks.faults = ap (λ (s : FilesState). s.disks.faults) read.frame in
       record {
         says = says;
         kept = λ other. since (λ p. 0 < length (p other).now.seen → new.pasts other ≡ p other) (kept other);
-        sources = subst (λ (s : Opened (Option (List ℕ))). HandsOver old.sources.names s.names (names_of verb.Init old file)) (sym sources) read.handed;
-        disks = hands-store verb.Init old new file job is.job (subst (λ (l : List (List ℕ)). HandsOver old.disks.names new.disks.names l) (sym names) handed);
+        sources = subst (λ (s : Opened (Option (List ℕ))). OpensInOrder old.sources.names s.names (names_of verb.Init old file)) (sym sources) read.handed;
+        disks = hands-store verb.Init old new file job is.job (subst (λ (l : List (List ℕ)). OpensInOrder old.disks.names new.disks.names l) (sym names) handed);
         frame = used.frame ∙ ap (λ (s : FilesState). record s { pasts = new.pasts; disks = new.disks }) read.frame
             ∙ ap (λ (s : Opened (Option (List ℕ))). record old { sources = s; pasts = new.pasts; disks = new.disks }) (sym sources);
         early = λ early. absurd (late early);
@@ -134,7 +134,7 @@ module _ (told : Bool) (old mid new : FilesState) (file : List ℕ) (input : Inp
       (λ early. early) (λ given empty no_disk. tt)
 
   -- it was not
-  pub init-failed : (cause : NoStore) → IsWhyNoStore told name mid new cause → IsInit told file old new (status_of_no_store cause)
+  pub init-failed : (cause : StoreError) → MakeStoreErrorCause told name mid new cause → IsInit told file old new (status_of_no_store cause)
   init-failed (no_store.BadStore fault) refused =
       let says = of-store (λ n h. IfDisksTold told old (HasBytes (old.pasts n) fault)) (since (λ p. HasBytes (p name) fault) refused) in
       init-ends (status_of_no_store (no_store.BadStore fault)) says (λ early. early) (λ given empty no_disk. no-bad-store told old file fault given empty says)

@@ -9,24 +9,24 @@ use Rattle.graph_core.specs.DataGraph.{DataGraph, IsDataGraph}
 use Rattle.job_io.specs.job_config.Jobs.{JobSayings}
 use Rattle.job_io.specs.job_files.JobTexts.{HasStart}
 use Rattle.job_io.specs.job_stores.JobHeaders.{header_for}
-use Rattle.job_io.specs.declared.job_stores.making.NoStore.{NoStore}
-use Rattle.job_io.specs.declared.job_stores.making.NoStore.TheVariants as no_store
+use Rattle.job_io.specs.declared.job_stores.making.StoreError.{StoreError}
+use Rattle.job_io.specs.declared.job_stores.making.StoreError.TheVariants as no_store
 use Rattle.seq_run.specs.StepBound.{step_bound}
-use Rattle.store.specs.snap_journal.Answers.{IsWhyNotOpened}
+use Rattle.store.specs.snap_journal.Answers.{OpenErrorCause}
 use Rattle.store.specs.declared.snap_journal.faults.JournalFault.{JournalFault}
 use Rattle.store.specs.declared.snap_journal.faults.JournalFault.TheVariants as journal
-use Rattle.store.specs.store_format.Stores.{StandsFor, stored_in}
+use Rattle.store.specs.store_format.Stores.{DecodesTo, stored_in}
 use Rattle.store.specs.declared.store_format.faults.StoreFault.{StoreFault}
 use Rattle.store.specs.declared.store_format.faults.StoreFault.TheVariants.{BadByte}
 use Rattle.store.specs.declared.store_format.header.Header.{Header}
 use Rattle.engine_runs.specs.answers.Images.{HoldsGood, IsGoodStore, KeepsGood}
-use Rattle.engine_runs.specs.answers.Ends.{RunEndsSo}
+use Rattle.engine_runs.specs.answers.Ends.{RunEndMeaning}
 use Rattle.engine_runs.specs.answers.Runs.{IsStoredRun, Shared, lists_of}
 use Rattle.engine_runs.specs.declared.answers.runs.StoredEnd.{StoredEnd}
 use Rattle.engine_runs.specs.declared.answers.runs.StoredEnd.TheVariants as end
 use Rattle.engine_runs.specs.declared.answers.runs.StoredRun.{StoredRun}
 use Rattle.update_api.specs.Updates.{Update}
-use Rattle.engine_cli.specs.Inner.Storing.{IsStoreKept, IsNotGood, IsNotGoneOnFrom, IsStoreRunFrom, IsWhyNotOnDisk, IsWhyNotOnJournal, IsWhyNoneStored, no_store_of_journal, no_store_of_run}
+use Rattle.engine_cli.specs.Inner.Storing.{IsStoreKept, IsNotGood, IsNotGoneOnFrom, IsStoreRunFrom, RunOnDiskErrorCause, RunOnJournalErrorCause, RunStoredErrorCause, no_store_of_journal, no_store_of_run}
 use Rattle.engine_cli.specs.JobRuns.{AreGoodImages, GoesOnFrom, KeepsStore, RunsOnStore, records_size, shared_by, snapshots_on}
 use Rattle.engine_cli.specs.JobStores.{IsNotRunFrom, IsOtherStore, KeepsGoing, KeepsImages}
 use Rattle.engine_cli.specs.Plays.{AreResults, HasEdgesFor, update_of}
@@ -35,14 +35,14 @@ use Rattle.engine_cli.proofs.DisksLeft.{leaves-more, leaves-twice}
 use Rattle.engine_cli.proofs.Results.{results-of}
 
 -- bytes stand for one list of snapshots
-pub one_store : (header : Header) (bytes : List ℕ) (a b : List (List ℕ)) → StandsFor header a bytes → StandsFor header b bytes → a ≡ b
+pub one_store : (header : Header) (bytes : List ℕ) (a b : List (List ℕ)) → DecodesTo header a bytes → DecodesTo header b bytes → a ≡ b
 one_store header bytes a b p q = same_ok (sym p ∙ q)
   where
     same_ok : {x y : List (List ℕ)} → Ok x ≡ (let r : Result (List (List ℕ)) StoreFault = Ok y in r) → x ≡ y
     same_ok e = cc
 
 -- and these are the ones that they have
-pub stands_are : (header : Header) (bytes : List ℕ) (bodies : List (List ℕ)) → StandsFor header bodies bytes → stored_in header bytes ≡ bodies
+pub stands_are : (header : Header) (bytes : List ℕ) (bodies : List (List ℕ)) → DecodesTo header bodies bytes → stored_in header bytes ≡ bodies
 stands_are header bytes bodies stands = ap (λ (r : Result (List (List ℕ)) StoreFault). result_unwrap_or r []) stands
 
 -- a good store that begins with more begins with less
@@ -51,7 +51,7 @@ good-front shared header front behind image holds =
     let same : front ++ (behind ++ holds.behind) ≡ (front ++ behind) ++ holds.behind = sym (append_assoc front behind holds.behind) in
     record {
       behind = behind ++ holds.behind;
-      stands = subst (λ (b : List (List ℕ)). StandsFor header b image) (sym same) holds.stands;
+      stands = subst (λ (b : List (List ℕ)). DecodesTo header b image) (sym same) holds.stands;
       good = subst (IsGoodStore shared header) (sym same) holds.good;
     }
 
@@ -61,12 +61,12 @@ pub stored-results : (job : JobSayings) (g : DataGraph) (owner : ℕ → ℕ) (c
     → IsStoredRun true (shared_by job g owner) job.fields.machines job.fields.window job.fields.budget count kept resumed snapshots run
     → run.end ≡ end.Finished → AreResults job.fields.algorithm job.fields.source g run.numbers.items
 stored-results job g owner count kept resumed snapshots run is start edges ran finished =
-    let E : StoredEnd → Type 0 = λ e. RunEndsSo true (shared_by job g owner) job.fields.machines job.fields.window job.fields.budget count kept snapshots ran.unanswered (lists_of run) e in
+    let E : StoredEnd → Type 0 = λ e. RunEndMeaning true (shared_by job g owner) job.fields.machines job.fields.window job.fields.budget count kept snapshots ran.unanswered (lists_of run) e in
     let ends : E end.Finished = subst E finished ran.ends in
     results-of job.fields.algorithm job.fields.source g run.order.items run.numbers.items is start edges ran.is.in_turn.valid ran.numbers_are ends.finished
 
 -- The store was opened, on a disk that reads as it did, and whatever a crash left of it as the call began was left since.
-module _ (job : JobSayings) (g : DataGraph) (cut : Cut) (old mid new : DiskPast) (bodies : List (List ℕ)) (seen : IsImage old.now old.now.seen) (stands : StandsFor (header_for job.fields g) bodies old.now.seen)
+module _ (job : JobSayings) (g : DataGraph) (cut : Cut) (old mid new : DiskPast) (bodies : List (List ℕ)) (seen : IsImage old.now old.now.seen) (stands : DecodesTo (header_for job.fields g) bodies old.now.seen)
     (opened : LeavesOnly old mid (IsImage old.now)) where
   abbrev pub header : Header
   header = header_for job.fields g
@@ -103,7 +103,7 @@ module _ (job : JobSayings) (g : DataGraph) (cut : Cut) (old mid new : DiskPast)
   runs-on-store resumed run is start edges fresh from =
       let same : bodies ≡ snapshots_on job g old = sym (stands_are header old.now.seen bodies stands) in
       record {
-        stands = subst (λ (b : List (List ℕ)). StandsFor header b old.now.seen) same stands;
+        stands = subst (λ (b : List (List ℕ)). DecodesTo header b old.now.seen) same stands;
         fresh = subst (λ (b : List (List ℕ)). resumed ≡ false → length b ≡ 0) same fresh;
         placed = from.placed;
         goes_on = λ owner front is_for.
@@ -148,7 +148,7 @@ module _ (job : JobSayings) (g : DataGraph) (cut : Cut) (old mid new : DiskPast)
   not-run-from resumed fault is =
       let same : bodies ≡ snapshots_on job g old = sym (stands_are header old.now.seen bodies stands) in
       record {
-        stands = subst (λ (b : List (List ℕ)). StandsFor header b old.now.seen) same stands;
+        stands = subst (λ (b : List (List ℕ)). DecodesTo header b old.now.seen) same stands;
         fresh = subst (λ (b : List (List ℕ)). resumed ≡ false → length b ≡ 0) same is.fresh;
         other = other-store is.other;
         place = subst (λ (b : List (List ℕ)). fault ≡ BadByte (65 + records_size b)) same is.place;
@@ -156,9 +156,9 @@ module _ (job : JobSayings) (g : DataGraph) (cut : Cut) (old mid new : DiskPast)
       }
 
 -- why there is no run, where the store was opened
-pub not-on-disk : (told : Type 0) (resumed : Bool) (job : JobSayings) (g : DataGraph) (cut : Cut) (old mid new : DiskPast) (bodies : List (List ℕ)) (before between now : ℕ) (why : NoStore)
-    → (told → IsImage old.now old.now.seen) → (told → StandsFor (header_for job.fields g) bodies old.now.seen) → (told → LeavesOnly old mid (IsImage old.now)) → before ≤ between
-    → IsWhyNotOnJournal told resumed job g cut (update_of job.fields.algorithm job.fields.source) (header_for job.fields g) bodies mid new between now why → IsWhyNotOnDisk told resumed job g cut old new before now why
+pub not-on-disk : (told : Type 0) (resumed : Bool) (job : JobSayings) (g : DataGraph) (cut : Cut) (old mid new : DiskPast) (bodies : List (List ℕ)) (before between now : ℕ) (why : StoreError)
+    → (told → IsImage old.now old.now.seen) → (told → DecodesTo (header_for job.fields g) bodies old.now.seen) → (told → LeavesOnly old mid (IsImage old.now)) → before ≤ between
+    → RunOnJournalErrorCause told resumed job g cut (update_of job.fields.algorithm job.fields.source) (header_for job.fields g) bodies mid new between now why → RunOnDiskErrorCause told resumed job g cut old new before now why
 not-on-disk told resumed job g cut old mid new bodies before between now (no_store.BadStore fault) seen stands opened later refused = λ is.
     ⊎_elim
     (λ said. inl (inr (said.0, record { snapshots = bodies; stands = stands is; some = said.1; told = said.2 }), unchanged job g cut old mid new bodies (seen is) (stands is) (opened is) said.3))
@@ -174,7 +174,7 @@ not-on-disk told resumed job g cut old mid new bodies before between now no_stor
 
 -- why there is none, where it was not
 pub not-opened : (told : Type 0) (resumed : Bool) (job : JobSayings) (g : DataGraph) (cut : Cut) (old new : DiskPast) (before now : ℕ) (fault : JournalFault)
-    → IsWhyNotOpened told (header_for job.fields g) old.now.seen before now fault → (told → LeavesOnly old new (IsImage old.now)) → IsWhyNotOnDisk told resumed job g cut old new before now (no_store_of_journal fault)
+    → OpenErrorCause told (header_for job.fields g) old.now.seen before now fault → (told → LeavesOnly old new (IsImage old.now)) → RunOnDiskErrorCause told resumed job g cut old new before now (no_store_of_journal fault)
 not-opened told resumed job g cut old new before now journal.DiskFault refused left = (refused, left)
 not-opened told resumed job g cut old new before now (journal.BadStore fault) refused left = λ is. inl (inl (refused is), left is)
 not-opened told resumed job g cut old new before now (journal.Full stored length) refused left = absurd refused
@@ -184,8 +184,8 @@ not-opened told resumed job g cut old new before now journal.NoMemory refused le
 -- why there is none, where the run could not begin or go on, or wanted memory
 pub not-stored : (told : Type 0) (resumed : Bool) (job : JobSayings) (g : DataGraph) (cut : Cut) (header : Header) (bodies : List (List ℕ)) (old new : DiskPast) (before now : ℕ) (fault : JournalFault) (long : ℕ)
     → (told → long ≡ 65 + records_size bodies) → (told → resumed ≡ false → length bodies ≡ 0)
-    → IsWhyNoneStored told job g cut (update_of job.fields.algorithm job.fields.source) header bodies old new before now fault
-    → IsWhyNotOnJournal told resumed job g cut (update_of job.fields.algorithm job.fields.source) header bodies old new before now (no_store_of_run fault long)
+    → RunStoredErrorCause told job g cut (update_of job.fields.algorithm job.fields.source) header bodies old new before now fault
+    → RunOnJournalErrorCause told resumed job g cut (update_of job.fields.algorithm job.fields.source) header bodies old new before now (no_store_of_run fault long)
 not-stored told resumed job g cut header bodies old new before now journal.DiskFault long measured fresh refused = refused
 not-stored told resumed job g cut header bodies old new before now (journal.BadStore fault) long measured fresh refused = λ is.
     inr (record { fresh = fresh is; other = (refused is).0; place = ap (λ (n : ℕ). BadByte n) (measured is); kept = (refused is).1 })
@@ -199,7 +199,7 @@ pub run-of-header : (job : JobSayings) (g : DataGraph) (cut : Cut) (p : Update) 
 run-of-header job g cut p one other saves window resumed count bodies old new run same from =
     subst (λ (h : Header). IsStoreRunFrom job g cut p h saves window resumed count bodies old new run) same from
 
-pub why-of-header : (told : Type 0) (resumed : Bool) (job : JobSayings) (g : DataGraph) (cut : Cut) (p : Update) (one other : Header) (bodies : List (List ℕ)) (old new : DiskPast) (before now : ℕ) (why : NoStore) → one ≡ other
-    → IsWhyNotOnJournal told resumed job g cut p one bodies old new before now why → IsWhyNotOnJournal told resumed job g cut p other bodies old new before now why
+pub why-of-header : (told : Type 0) (resumed : Bool) (job : JobSayings) (g : DataGraph) (cut : Cut) (p : Update) (one other : Header) (bodies : List (List ℕ)) (old new : DiskPast) (before now : ℕ) (why : StoreError) → one ≡ other
+    → RunOnJournalErrorCause told resumed job g cut p one bodies old new before now why → RunOnJournalErrorCause told resumed job g cut p other bodies old new before now why
 why-of-header told resumed job g cut p one other bodies old new before now why same is =
-    subst (λ (h : Header). IsWhyNotOnJournal told resumed job g cut p h bodies old new before now why) same is
+    subst (λ (h : Header). RunOnJournalErrorCause told resumed job g cut p h bodies old new before now why) same is

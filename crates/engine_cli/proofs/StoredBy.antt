@@ -24,10 +24,10 @@ use Rattle.engine_runs.specs.declared.answers.runs.StoredEnd.{StoredEnd}
 use Rattle.engine_runs.specs.declared.answers.runs.StoredEnd.TheVariants as end
 use Rattle.engine_runs.specs.declared.answers.runs.StoredRun.{StoredRun}
 use Rattle.engine_runs.specs.Calls.{EndsBy}
-use Rattle.engine_runs.specs.Runs.{IsWhyNoRun, owned_shared}
+use Rattle.engine_runs.specs.Runs.{RunErrorCause, owned_shared}
 use Rattle.update_api.specs.Updates.{Update}
 use Rattle.engine_cli.specs.Inner.Prepares.{IsPrintable}
-use Rattle.engine_cli.specs.Inner.Storing.{IsStoreKept, IsNotGood, IsStoreRunFrom, IsWhyNoneStored}
+use Rattle.engine_cli.specs.Inner.Storing.{IsStoreKept, IsNotGood, IsStoreRunFrom, RunStoredErrorCause}
 use Rattle.engine_cli.specs.JobRuns.{BoundsSteps, HasRoomForRun, IsRunBy, lists_of, plan_for}
 
 pub IfOk-map : {T E : Type 0} (r : Result T E) (P Q : T → Type 0) → ((x : T) → P x → Q x) → IfOk r P → IfOk r Q
@@ -158,8 +158,8 @@ module _ (job : JobSayings) (g : DataGraph) (cut : Cut) (p : Update) (bodies : L
   not-good-by : NotGoodBy g cut p bodies plan failures header → IsNotGood job g cut p header bodies
   not-good-by not = of-job (NotGoodBy g cut p bodies) not
 
-  pub why-not-stored : (told : Type 0) (before now : ℕ) (fault : JournalFault) → IsWhyNoRun told old new before now (KeepsBy g cut p bodies old new plan failures header) fault
-      → ((why : StoreFault) → fault ≡ journal.BadStore why → told → NotGoodBy g cut p bodies plan failures header) → IsWhyNoneStored told job g cut p header bodies old new before now fault
+  pub why-not-stored : (told : Type 0) (before now : ℕ) (fault : JournalFault) → RunErrorCause told old new before now (KeepsBy g cut p bodies old new plan failures header) fault
+      → ((why : StoreFault) → fault ≡ journal.BadStore why → told → NotGoodBy g cut p bodies plan failures header) → RunStoredErrorCause told job g cut p header bodies old new before now fault
   why-not-stored told before now journal.DiskFault refused not = refused
   why-not-stored told before now (journal.BadStore why) refused not = λ is. (not-good-by (not why refl is), ⊎_elim (λ same. inl same) (λ keeps. inr (kept-by keeps)) (refused is))
   why-not-stored told before now (journal.Full stored length) refused not = refused
@@ -168,5 +168,5 @@ module _ (job : JobSayings) (g : DataGraph) (cut : Cut) (p : Update) (bodies : L
 
 -- the same of another name of the program
 pub by-program : (r : Result StoredRun JournalFault) (told : Type 0) (job : JobSayings) (g : DataGraph) (cut : Cut) (p q : Update) (header : Header) (bodies : List (List ℕ)) (old new : DiskPast) (before now : ℕ) → p ≡ q
-    → IfErr r (IsWhyNoneStored told job g cut p header bodies old new before now) → IfErr r (IsWhyNoneStored told job g cut q header bodies old new before now)
-by-program r told job g cut p q header bodies old new before now same refused = subst (λ (u : Update). IfErr r (IsWhyNoneStored told job g cut u header bodies old new before now)) same refused
+    → IfErr r (RunStoredErrorCause told job g cut p header bodies old new before now) → IfErr r (RunStoredErrorCause told job g cut q header bodies old new before now)
+by-program r told job g cut p q header bodies old new before now same refused = subst (λ (u : Update). IfErr r (RunStoredErrorCause told job g cut u header bodies old new before now)) same refused

@@ -26,7 +26,7 @@ use Rattle.job_io.specs.job_stores.NewStores.{IfDisksTold}
 use Rattle.seq_run.specs.Orders.{IsFinished, replay}
 use Rattle.seq_run.specs.Runs.{AreNumbers}
 use Rattle.seq_run.specs.StepBound.{step_bound}
-use Rattle.store.specs.store_format.Stores.{StandsFor}
+use Rattle.store.specs.store_format.Stores.{DecodesTo}
 use Rattle.store.specs.declared.store_format.header.Header.{Header}
 use Rattle.engine_runs.specs.declared.answers.runs.SnapLine.{SnapLine}
 use Rattle.engine_runs.specs.declared.answers.runs.StoredEnd.{StoredEnd}
@@ -190,7 +190,7 @@ snapshots_on job g past = stored_in (header_for job.fields g) past.now.seen
 -- run is resumed. If that was a store of the job as the call began, it is a run that goes on from it, of the machines that the job names. If it ended as the store has no room, that has so
 -- many snapshots and bytes.
 pub record RunsOnStore (resumed : Bool) (job : JobSayings) (g : DataGraph) (cut : Cut) (old new : DiskPast) (run : StoredRun) : Type 0 where
-  pub stands : StandsFor (header_for job.fields g) (snapshots_on job g old) old.now.seen
+  pub stands : DecodesTo (header_for job.fields g) (snapshots_on job g old) old.now.seen
   pub fresh : resumed ≡ false → length (snapshots_on job g old) ≡ 0
   pub placed : (owner : ℕ → ℕ) × IsPlacement g cut job.fields.machines owner
   pub goes_on : (owner : ℕ → ℕ) (front : List (List ℕ)) → IsStoreOfJob job g cut owner front old

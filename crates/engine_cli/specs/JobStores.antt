@@ -11,7 +11,7 @@ use Rattle.job_io.specs.job_files.JobTexts.{OfJob, OfSaid, OfTexts}
 use Rattle.job_io.specs.declared.job_files.jobs.JobVerb.{JobVerb}
 use Rattle.job_io.specs.job_stores.JobHeaders.{header_for}
 use Rattle.job_io.specs.job_stores.NewStores.{IfDisksTold}
-use Rattle.store.specs.store_format.Stores.{StandsFor, read_store}
+use Rattle.store.specs.store_format.Stores.{DecodesTo, read_store}
 use Rattle.store.specs.declared.store_format.faults.StoreFault.{StoreFault}
 use Rattle.store.specs.declared.store_format.faults.StoreFault.TheVariants.{BadByte, Used}
 use Rattle.store.specs.declared.store_format.header.Header.{Header}
@@ -21,7 +21,7 @@ use Rattle.engine_cli.specs.StoreJobs.{HandsStore, IsStoreName}
 -- the bytes are those of a store that has snapshots, and the fault tells how many
 pub record IsUsed (header : Header) (seen : List ℕ) (fault : StoreFault) : Type 0 where
   pub snapshots : List (List ℕ)
-  pub stands : StandsFor header snapshots seen
+  pub stands : DecodesTo header snapshots seen
   pub some : 0 < length snapshots
   pub told : fault ≡ Used (length snapshots)
 
@@ -51,7 +51,7 @@ KeepsGoing job g cut old new =
 -- The store has the form of one for the job, with no snapshots unless the run is resumed; but it is none that calls leave, and no run came from it. The fault is
 -- a bad byte where it ended as it was opened. What a crash left is what one as the call began would have left; or from a good store it has all that it had.
 pub record IsNotRunFrom (resumed : Bool) (job : JobSayings) (g : DataGraph) (cut : Cut) (old new : DiskPast) (fault : StoreFault) : Type 0 where
-  pub stands : StandsFor (header_for job.fields g) (snapshots_on job g old) old.now.seen
+  pub stands : DecodesTo (header_for job.fields g) (snapshots_on job g old) old.now.seen
   pub fresh : resumed ≡ false → length (snapshots_on job g old) ≡ 0
   pub other : IsOtherStore job g cut old
   pub place : fault ≡ BadByte (65 + records_size (snapshots_on job g old))

@@ -1,5 +1,5 @@
 pub mod Answer
-pub mod Says
+pub mod StatusMeanings
 pub mod Status
 pub mod NamesWritten
 pub mod CutJobs

@@ -5,7 +5,7 @@ use Rattle.gl_outside.specs.FilesState.{FilesState}
 use Rattle.job_io.specs.job_config.Fields.{JobFields}
 use Rattle.job_io.specs.job_config.Jobs.{JobSayings}
 use Rattle.job_io.specs.whole_files.AtomNames.{cut_names}
-use Rattle.job_io.specs.whole_files.FilesUsed.{HandsOver}
+use Rattle.job_io.specs.whole_files.FilesUsed.{OpensInOrder}
 use Rattle.job_io.specs.job_files.DoableJobs.{job_for}
 use Rattle.job_io.specs.job_files.JobTexts.{OfJob}
 use Rattle.job_io.specs.declared.job_files.jobs.JobVerb.{JobVerb}
@@ -34,8 +34,8 @@ written_for verb (Ok job) = names_for verb job.fields
 written_for verb (Err fault) = []
 
 -- the names that files were created under are at most those that the job gives for the verb, in turn
-abbrev pub HandsWritten : JobVerb → FilesState → FilesState → List ℕ → Type 0
-HandsWritten verb old new file = IfSome (old.contents file) (λ bytes. HandsOver old.sinks.names new.sinks.names (written_for verb (job_for verb bytes)))
+abbrev pub WriteOpens : JobVerb → FilesState → FilesState → List ℕ → Type 0
+WriteOpens verb old new file = IfSome (old.contents file) (λ bytes. OpensInOrder old.sinks.names new.sinks.names (written_for verb (job_for verb bytes)))
 
 -- the job gives this name to a file that the verb writes
 abbrev pub IsWrittenName : JobVerb → FilesState → List ℕ → List ℕ → Type 0

@@ -2,12 +2,12 @@
 use Rattle.std.specs.Prelude.{ℕ, ⊤}
 use Rattle.graph_text.specs.declared.generate.making.Writing.{Writing}
 use Rattle.job_io.specs.declared.job_files.inputs.NoInput.{NoInput}
-use Rattle.job_io.specs.declared.job_stores.making.NoStore.{NoStore}
+use Rattle.job_io.specs.declared.job_stores.making.StoreError.{StoreError}
 use Rattle.engine_cli.specs.declared.status.Status.{Status}
 use Rattle.engine_cli.specs.declared.status.Status.TheVariants.{Done, Usage, BadJob, BadGraph, BadAtoms, ReadFault, WriteFault, DiskFault, BadStore, BudgetSpent, SnapshotsFull, NoMemory}
 use Rattle.graph_text.specs.declared.generate.making.Writing.TheVariants as out
 use Rattle.job_io.specs.declared.job_files.inputs.NoInput.TheVariants as why
-use Rattle.job_io.specs.declared.job_stores.making.NoStore.TheVariants as no_store
+use Rattle.job_io.specs.declared.job_stores.making.StoreError.TheVariants as no_store
 
 -- the number that a program ends with
 abbrev pub exit_number : Status → ℕ
@@ -40,19 +40,19 @@ IsBeforeWriting (SnapshotsFull stored length) = ⊤
 IsBeforeWriting NoMemory = ⊤
 
 -- the statuses at which no file was begun and no store was opened
-abbrev pub IsBeforeMaking : Status → Type 0
-IsBeforeMaking Done = ⊥
-IsBeforeMaking (Usage fault) = ⊤
-IsBeforeMaking (BadJob fault) = ⊤
-IsBeforeMaking (BadGraph fault) = ⊤
-IsBeforeMaking (BadAtoms fault) = ⊤
-IsBeforeMaking ReadFault = ⊤
-IsBeforeMaking WriteFault = ⊥
-IsBeforeMaking DiskFault = ⊥
-IsBeforeMaking (BadStore fault) = ⊥
-IsBeforeMaking (BudgetSpent left) = ⊥
-IsBeforeMaking (SnapshotsFull stored length) = ⊥
-IsBeforeMaking NoMemory = ⊥
+abbrev pub IsInputRefusal : Status → Type 0
+IsInputRefusal Done = ⊥
+IsInputRefusal (Usage fault) = ⊤
+IsInputRefusal (BadJob fault) = ⊤
+IsInputRefusal (BadGraph fault) = ⊤
+IsInputRefusal (BadAtoms fault) = ⊤
+IsInputRefusal ReadFault = ⊤
+IsInputRefusal WriteFault = ⊥
+IsInputRefusal DiskFault = ⊥
+IsInputRefusal (BadStore fault) = ⊥
+IsInputRefusal (BudgetSpent left) = ⊥
+IsInputRefusal (SnapshotsFull stored length) = ⊥
+IsInputRefusal NoMemory = ⊥
 
 -- the statuses at which the job or its graph was refused, and no atom was read
 abbrev pub IsRefusedInput : Status → Type 0
@@ -113,7 +113,7 @@ status_of_writing out.WriteFault = WriteFault
 status_of_writing out.NoMemory = NoMemory
 
 -- what a call ends with for which there is no store
-abbrev pub status_of_no_store : NoStore → Status
+abbrev pub status_of_no_store : StoreError → Status
 status_of_no_store (no_store.BadStore fault) = BadStore fault
 status_of_no_store no_store.DiskFault = DiskFault
 status_of_no_store no_store.NoMemory = NoMemory

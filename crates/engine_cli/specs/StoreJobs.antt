@@ -5,7 +5,7 @@ use Rattle.gl_outside.specs.Faults.{Rose}
 use Rattle.gl_outside.specs.FilesState.{FilesState}
 use Rattle.job_io.specs.job_config.Fields.{JobFields}
 use Rattle.job_io.specs.job_config.Jobs.{JobSayings}
-use Rattle.job_io.specs.whole_files.FilesUsed.{HandsOver}
+use Rattle.job_io.specs.whole_files.FilesUsed.{OpensInOrder}
 use Rattle.job_io.specs.job_files.Atoms.{OfGraph}
 use Rattle.job_io.specs.job_files.DoableJobs.{job_for}
 use Rattle.job_io.specs.job_files.JobTexts.{OfJob, OfTexts, RefusesJob, RefusesTexts}
@@ -46,7 +46,7 @@ store_names (Err fault) = []
 
 -- the name that was handed to the open of disks is at most that of the job's store
 abbrev pub HandsStore : JobVerb → FilesState → FilesState → List ℕ → Type 0
-HandsStore asked old new file = IfSome (old.contents file) (λ bytes. HandsOver old.disks.names new.disks.names (store_names (job_for asked bytes)))
+HandsStore asked old new file = IfSome (old.contents file) (λ bytes. OpensInOrder old.disks.names new.disks.names (store_names (job_for asked bytes)))
 
 -- the job's store has this name
 abbrev pub IsStoreName : JobVerb → FilesState → List ℕ → List ℕ → Type 0

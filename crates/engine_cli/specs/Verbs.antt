@@ -13,29 +13,29 @@ use Rattle.engine_cli.specs.declared.status.Status.TheVariants.{NoMemory}
 use Rattle.job_io.specs.declared.job_files.jobs.JobVerb.{JobVerb}
 use Rattle.engine_cli.specs.JobRuns.{CallLists, lists_of_call, no_lists}
 use Rattle.engine_cli.specs.JobStores.{UsesStore}
-use Rattle.job_io.specs.whole_files.FilesUsed.{HandsOver, WritesFiles}
+use Rattle.job_io.specs.whole_files.FilesUsed.{OpensInOrder, WritesFiles}
 use Rattle.engine_cli.specs.CutJobs.{Cuts, LeavesCutFronts}
 use Rattle.engine_cli.specs.StoreJobs.{HandsStore, HasEmptyStore, IsStoreName, MakesStore}
 use Rattle.job_io.specs.job_stores.NewStores.{KeepsFilledDisks}
-use Rattle.engine_cli.specs.NamesWritten.{HandsWritten, IsWrittenName}
-use Rattle.job_io.specs.job_files.NamesRead.{HandsForRun, names_of}
+use Rattle.engine_cli.specs.NamesWritten.{WriteOpens, IsWrittenName}
+use Rattle.job_io.specs.job_files.NamesRead.{RunOpens, names_of}
 use Rattle.job_io.specs.graph_files.Made.{LeavesFront, edges_name, vertices_name}
 use Rattle.engine_cli.specs.Made.{Makes}
-use Rattle.engine_cli.specs.Says.{IsReadable, IsSound, IsSoundOnStore, Moment, Says}
-use Rattle.engine_cli.specs.Status.{IsBeforeMaking, IsBeforeWriting, IsDoneOrNoMemory, IsRefusedInput}
+use Rattle.engine_cli.specs.StatusMeanings.{IsReadable, IsSound, IsSoundOnStore, Moment, StatusMeaning}
+use Rattle.engine_cli.specs.Status.{IsInputRefusal, IsBeforeWriting, IsDoneOrNoMemory, IsRefusedInput}
 use Rattle.job_io.specs.declared.job_files.jobs.JobVerb.TheVariants as verb
 
 -- What `run` and `resume` leave, where `told` says whether it is told what disks hold, and `tells` holds of what is reported. They hand the opens
 -- the names of the job's file, of the job's texts, of its atoms, of its store and of the order's file at most, in turn. Until the store is opened
 -- nothing changes but what is read, until it is written no name gives anything else, and no name but the order's file ever does.
 pub record IsRun (told : Bool) (asked : JobVerb) (file : List ℕ) (report : Bool) (before now : Moment) (tells : List ℕ → Type 0) (lists : CallLists) (status : Status) : Type 0 where
-  pub says : Says told asked file report before now tells lists status
+  pub says : StatusMeaning told asked file report before now tells lists status
   pub complete : IsSound asked file before now → IsDoneOrNoMemory status
   pub complete_on_store : IsSoundOnStore told asked file before now → IsDoneOrNoMemory status
-  pub sources : HandsForRun asked before.files now.files file
-  pub refused : IsRefusedInput status → HandsOver before.files.sources.names now.files.sources.names (names_of asked before.files file)
-  pub sinks : HandsWritten asked before.files now.files file
-  pub early : IsBeforeMaking status → ChangesSources before.files now.files
+  pub sources : RunOpens asked before.files now.files file
+  pub refused : IsRefusedInput status → OpensInOrder before.files.sources.names now.files.sources.names (names_of asked before.files file)
+  pub sinks : WriteOpens asked before.files now.files file
+  pub early : IsInputRefusal status → ChangesSources before.files now.files
   pub unwritten : IsBeforeWriting status → (status ≢ NoMemory) → now.files.sinks ≡ before.files.sinks
   pub kept : IsBeforeWriting status → now.files.contents ≡ before.files.contents
   pub others : (name : List ℕ) → (IsWrittenName asked before.files file name → ⊥) → now.files.contents name ≡ before.files.contents name
@@ -54,9 +54,9 @@ pub record IsMaking (prefix : List ℕ) (plan : MakePlan) (before now : FilesSta
 pub record IsCutting (file : List ℕ) (before now : FilesState) (status : Status) : Type 0 where
   pub says : Cuts file before now status
   pub fronts : LeavesCutFronts file before now
-  pub sources : HandsOver before.sources.names now.sources.names (names_of verb.Cut before file)
-  pub sinks : HandsWritten verb.Cut before now file
-  pub early : IsBeforeMaking status → ChangesSources before now
+  pub sources : OpensInOrder before.sources.names now.sources.names (names_of verb.Cut before file)
+  pub sinks : WriteOpens verb.Cut before now file
+  pub early : IsInputRefusal status → ChangesSources before now
   pub others : (name : List ℕ) → (IsWrittenName verb.Cut before file name → ⊥) → now.contents name ≡ before.contents name
   pub complete : IsReadable verb.Cut before file → (Rose before.sources.faults now.sources.faults → ⊥) → (Rose before.sinks.faults now.sinks.faults → ⊥) → IsDoneOrNoMemory status
 
@@ -65,10 +65,10 @@ pub record IsCutting (file : List ℕ) (before now : FilesState) (status : Statu
 pub record IsInit (told : Bool) (file : List ℕ) (before now : FilesState) (status : Status) : Type 0 where
   pub says : MakesStore told file before now status
   pub kept : KeepsFilledDisks told before now
-  pub sources : HandsOver before.sources.names now.sources.names (names_of verb.Init before file)
+  pub sources : OpensInOrder before.sources.names now.sources.names (names_of verb.Init before file)
   pub disks : HandsStore verb.Init before now file
   pub frame : now ≡ record before { sources = now.sources; pasts = now.pasts; disks = now.disks }
-  pub early : IsBeforeMaking status → ChangesSources before now
+  pub early : IsInputRefusal status → ChangesSources before now
   pub others : (name : List ℕ) → (IsStoreName verb.Init before file name → ⊥) → now.pasts name ≡ before.pasts name
   pub later : before.disks.faults ≤ now.disks.faults
   pub complete : (input : IsReadable verb.Init before file) → HasEmptyStore told before input.job.fields → (Rose before.sources.faults now.sources.faults → ⊥) → (Rose before.disks.faults now.disks.faults → ⊥)

@@ -42,7 +42,7 @@ pub fn files_only<F: Files, K: Sink, N: Sink>(
     ensures cut { (file : List ℕ) → words.now ≡ Cut file →
         IsCutting file (F.state files.old) (F.state files.new) result }
     ensures init { (file : List ℕ) → words.now ≡ Init file →
-        IsInit F.disks_told file (F.state files.old) (F.state files.new) result }
+        IsInit F.disks_observable file (F.state files.old) (F.state files.new) result }
     ensures reads { (F.state files.old).sources.faults ≤ (F.state files.new).sources.faults }
     ensures later { (F.state files.old).sinks.faults ≤ (F.state files.new).sinks.faults }
     ensures untouched { out.new ≡ out.old }
@@ -91,7 +91,7 @@ fn cut_job<F: Files>(alloc: Global, files: &mut F, file: &str) -> Status
 
 /// Reads the job and its graph, and makes the job's store.
 fn init_job<F: Files>(alloc: Global, files: &mut F, file: &str) -> Status
-    ensures init { IsInit F.disks_told file.now (F.state files.old) (F.state files.new) result }
+    ensures init { IsInit F.disks_observable file.now (F.state files.old) (F.state files.new) result }
     ensures reads { (F.state files.old).sources.faults ≤ (F.state files.new).sources.faults }
     ensures writes { (F.state files.old).sinks.faults ≤ (F.state files.new).sinks.faults }
 {

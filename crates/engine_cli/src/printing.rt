@@ -8,7 +8,7 @@ ghost use Rattle.engine_cli.specs.Answer.{report_of};
 ghost use Rattle.job_io.specs.whole_files.FilesUsed.{WritesFiles};
 ghost use Rattle.engine_cli.specs.NamesWritten.{order_names};
 ghost use Rattle.engine_cli.specs.Inner.Printing.{Prints, printed_of};
-ghost use Rattle.engine_cli.specs.Says.{moment};
+ghost use Rattle.engine_cli.specs.StatusMeanings.{moment};
 
 use crate::running::Prepared;
 use gl_base::NoMemory;

@@ -1,13 +1,13 @@
 //! Runs the job in a file.
 ghost use Rattle.std.specs.Prelude.{◌≡◌, ℕ, ◌≤◌, [], false, List, IfErr, IfOk};
 ghost use Rattle.gl_outside.specs.Frames.{ChangesSources};
-ghost use Rattle.job_io.specs.job_files.NamesRead.{HandsForRun, names_of};
-ghost use Rattle.job_io.specs.whole_files.FilesUsed.{HandsOver};
-ghost use Rattle.engine_cli.specs.Inner.Prepares.{ChangesInput, IsMadeRun, IsOfRun, IsPrepared, IsPrintable, IsRunnable, IsWhyNoneMade, UsesNamed, unfinished_status};
+ghost use Rattle.job_io.specs.job_files.NamesRead.{RunOpens, names_of};
+ghost use Rattle.job_io.specs.whole_files.FilesUsed.{OpensInOrder};
+ghost use Rattle.engine_cli.specs.Inner.Prepares.{ChangesInput, IsMadeRun, IsOfRun, IsPrepared, IsPrintable, IsRunnable, RunInputErrorCause, UsesNamed, unfinished_status};
 ghost use Rattle.engine_cli.specs.JobRuns.{is_resumed, lists_of_call, lists_of_run, no_lists};
 ghost use Rattle.engine_cli.specs.JobStores.{UsesStore};
-ghost use Rattle.engine_cli.specs.Says.{moment};
-ghost use Rattle.engine_cli.specs.Status.{IsBeforeMaking, IsBeforeWriting, IsRefusedInput};
+ghost use Rattle.engine_cli.specs.StatusMeanings.{moment};
+ghost use Rattle.engine_cli.specs.Status.{IsInputRefusal, IsBeforeWriting, IsRefusedInput};
 ghost use Rattle.engine_cli.specs.Verbs.{IsRun};
 
 use crate::failing::run_without_store;
@@ -20,7 +20,7 @@ use gl_outside::{Files, Sink};
 use graph_core::Graph;
 use graph_text::generate::Writing;
 use job_io::job_files::{Input, JobVerb, read_run_input};
-use job_io::job_stores::NoStore;
+use job_io::job_stores::StoreError;
 use std::alloc::Global;
 use std::sync::Wait;
 
@@ -51,7 +51,7 @@ pub fn run_job<R: Wait, F: Files, K: Sink>(
     out: &mut K,
 ) -> RunEnd
     requires { IsOfRun asked }
-    ensures run { IsRun F.disks_told asked file.now is_reported
+    ensures run { IsRun F.disks_observable asked file.now is_reported
         (moment (F.state files.old) (K.faults out.old) (K.held out.old))
         (moment (F.state files.new) (K.faults out.new) (K.held out.new))
         (λ report. result.report.items ≡ report) (lists_of_call result.ended) result.ended.status }
@@ -85,14 +85,14 @@ fn prepare<R: Wait, F: Files>(
     files: &mut F,
 ) -> Result<Prepared, Status>
     requires { IsOfRun asked }
-    ensures answer { IsPrepared F.disks_told asked (F.state files.old)
+    ensures answer { IsPrepared F.disks_observable asked (F.state files.old)
         (F.state files.new) file.now result }
     ensures frame { ChangesInput (F.state files.old) (F.state files.new) }
-    ensures early { IfErr result (λ status. IsBeforeMaking status →
+    ensures early { IfErr result (λ status. IsInputRefusal status →
         ChangesSources (F.state files.old) (F.state files.new)) }
-    ensures handed { HandsForRun asked (F.state files.old) (F.state files.new) file.now }
+    ensures handed { RunOpens asked (F.state files.old) (F.state files.new) file.now }
     ensures refused { IfErr result (λ status. IsRefusedInput status →
-        HandsOver (F.state files.old).sources.names (F.state files.new).sources.names
+        OpensInOrder (F.state files.old).sources.names (F.state files.new).sources.names
         (names_of asked (F.state files.old) file.now)) }
     ensures used { UsesStore asked file.now (F.state files.old) (F.state files.new) }
     ensures later { (F.state files.old).sources.faults ≤ (F.state files.new).sources.faults }
@@ -115,20 +115,20 @@ fn run_input<R: Wait, F: Files>(
     asked: JobVerb,
     files: &mut F,
     input: &Input,
-) -> Result<StoredRun, NoStore>
+) -> Result<StoredRun, StoreError>
     requires { IsRunnable input.now }
     ensures made { IfOk result
-        (IsMadeRun F.disks_told asked input.now (F.state files.old) (F.state files.new)) }
+        (IsMadeRun F.disks_observable asked input.now (F.state files.old) (F.state files.new)) }
     ensures printable { IfOk result (IsPrintable input.now.graph) }
     ensures refused { IfErr result
-        (IsWhyNoneMade F.disks_told asked input.now (F.state files.old)
+        (RunInputErrorCause F.disks_observable asked input.now (F.state files.old)
         (F.state files.new) input.now.job.store) }
     ensures used { UsesNamed input.now.job.store (F.state files.old) (F.state files.new) }
 {
     match &input.job.store {
         None => match run_without_store(rt, alloc, &input.graph, &input.cut, &input.job) {
             Ok(run) => Ok(run),
-            Err(NoMemory) => Err(NoStore::NoMemory),
+            Err(NoMemory) => Err(StoreError::NoMemory),
         },
         Some(name) => {
             let resumed = is_resumed(asked);

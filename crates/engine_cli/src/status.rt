@@ -6,7 +6,7 @@ ghost use Rattle.engine_cli.specs.Status.{exit_number};
 use gl_base::{AtomsFault, JobFault, TextFault, UsageFault, Vertex};
 use graph_text::generate::Writing;
 use job_io::job_files::NoInput;
-use job_io::job_stores::NoStore;
+use job_io::job_stores::StoreError;
 use store::store_format::StoreFault;
 
 /// How a call of the engine ended.
@@ -90,14 +90,14 @@ impl From<Writing> for Status {
     }
 }
 
-impl From<NoStore> for Status {
+impl From<StoreError> for Status {
     ghost from_gives = { λ why status. status ≡ status_of_no_store why };
 
-    fn from(why: NoStore) -> Self {
+    fn from(why: StoreError) -> Self {
         match why {
-            NoStore::BadStore(fault) => Status::BadStore(fault),
-            NoStore::DiskFault => Status::DiskFault,
-            NoStore::NoMemory => Status::NoMemory,
+            StoreError::BadStore(fault) => Status::BadStore(fault),
+            StoreError::DiskFault => Status::DiskFault,
+            StoreError::NoMemory => Status::NoMemory,
         }
     }
 }

@@ -14,7 +14,7 @@ ghost use Rattle.gl_outside.specs.Frames.{ChangesDisk};
 ghost use Rattle.call_laws.specs.whole_calls.Following.{AreJobFailures};
 ghost use Rattle.engine_cli.specs.JobRuns.{RunsOnStore};
 ghost use Rattle.engine_cli.specs.Inner.Prepares.{IsPrintable, IsRunnable};
-ghost use Rattle.engine_cli.specs.Inner.Storing.{IsStoreRunFrom, IsRunIntoStore, IsWhyNoStoredRun, IsWhyNotOnDisk, IsWhyNotOnJournal, IsWhyNoneStored, no_store_of_open, no_store_of_journal, no_store_of_run};
+ghost use Rattle.engine_cli.specs.Inner.Storing.{IsStoreRunFrom, IsRunIntoStore, RunOnStoreErrorCause, RunOnDiskErrorCause, RunOnJournalErrorCause, RunStoredErrorCause, no_store_of_open, no_store_of_journal, no_store_of_run};
 ghost use Rattle.engine_cli.specs.Plays.{update_of};
 
 use crate::playing::{plan_of, program_of};
@@ -25,7 +25,7 @@ use gl_outside::{Disk, DiskOf, Files, OpenFault};
 use graph_atoms::atom_gather::Cut;
 use graph_core::Graph;
 use job_io::job_files::Input;
-use job_io::job_stores::{NoStore, header_of};
+use job_io::job_stores::{StoreError, header_of};
 use std::alloc::Global;
 use std::sync::Wait;
 use store::snap_journal::{Journal, JournalFault};
@@ -43,13 +43,13 @@ pub fn run_on_store<R: Wait, F: Files>(
     name: &str,
     input: &Input,
     resumed: bool,
-) -> Result<StoredRun, NoStore>
+) -> Result<StoredRun, StoreError>
     requires { IsRunnable input.now }
     ensures run { IfOk result
-        (IsRunIntoStore F.disks_told resumed name.now input.now
+        (IsRunIntoStore F.disks_observable resumed name.now input.now
         (F.state files.old) (F.state files.new)) }
     ensures refused { IfErr result
-        (IsWhyNoStoredRun F.disks_told resumed name.now input.now
+        (RunOnStoreErrorCause F.disks_observable resumed name.now input.now
         (F.state files.old) (F.state files.new)) }
     ensures printable { IfOk result (IsPrintable input.now.graph) }
     ensures used { UsesDisk name.now (F.state files.old) (F.state files.new) }
@@ -58,7 +58,7 @@ pub fn run_on_store<R: Wait, F: Files>(
         Ok(file) => file,
         Err(fault) => return Err(not_opened(fault)),
     };
-    let mut made = Err(NoStore::NoMemory);
+    let mut made = Err(StoreError::NoMemory);
     let _disk = run_on_disk(
         rt,
         alloc,
@@ -78,17 +78,17 @@ fn run_on_disk<R: Wait, D: Disk>(
     disk: D,
     input: &Input,
     resumed: bool,
-    made: &mut Result<StoredRun, NoStore>,
+    made: &mut Result<StoredRun, StoreError>,
 ) -> D
     requires { IsRunnable input.now }
-    ensures run { IsTrue D.told →
+    ensures run { IsTrue D.observable →
         IfOk made.new (RunsOnStore resumed (job_view input.now.job) input.now.graph input.now.cut
         (D.past disk) (D.past result)) }
     ensures fault { IfOk made.new (λ run. run.end ≡ DiskFault →
         Rose (D.faults disk) (D.faults result)) }
     ensures printable { IfOk made.new (IsPrintable input.now.graph) }
     ensures refused { IfErr made.new
-        (IsWhyNotOnDisk (IsTrue D.told) resumed (job_view input.now.job) input.now.graph
+        (RunOnDiskErrorCause (IsTrue D.observable) resumed (job_view input.now.job) input.now.graph
         input.now.cut (D.past disk) (D.past result) (D.faults disk) (D.faults result)) }
     ensures same { D.same disk result }
     ensures later { D.faults disk ≤ D.faults result }
@@ -114,14 +114,14 @@ fn run_on_journal<R: Wait, D: Disk>(
     input: &Input,
     journal: &mut Journal<D>,
     resumed: bool,
-) -> Result<StoredRun, NoStore>
+) -> Result<StoredRun, StoreError>
     requires input { IsRunnable input.now }
     requires graph { IsHeaderOf input.now.graph journal.old.header }
     requires machines { journal.old.header.machines ≡ input.now.job.machines }
     requires well { journal.old.failed ≡ false }
-    ensures fresh { IsTrue D.told →
+    ensures fresh { IsTrue D.observable →
         IfOk result (λ run. resumed ≡ false → length (snapshots_in D.past journal.old) ≡ 0) }
-    ensures run { IsTrue D.told →
+    ensures run { IsTrue D.observable →
         IfOk result (IsStoreRunFrom (job_view input.now.job) input.now.graph input.now.cut
         (update_of input.now.job.algorithm input.now.job.source) journal.old.header true
         input.now.job.window resumed
@@ -131,7 +131,7 @@ fn run_on_journal<R: Wait, D: Disk>(
         Rose (D.faults journal.old.disk) (D.faults journal.new.disk)) }
     ensures printable { IfOk result (IsPrintable input.now.graph) }
     ensures refused { IfErr result
-        (IsWhyNotOnJournal (IsTrue D.told) resumed (job_view input.now.job) input.now.graph
+        (RunOnJournalErrorCause (IsTrue D.observable) resumed (job_view input.now.job) input.now.graph
         input.now.cut (update_of input.now.job.algorithm input.now.job.source) journal.old.header
         (snapshots_in D.past journal.old) (D.past journal.old.disk) (D.past journal.new.disk)
         (D.faults journal.old.disk) (D.faults journal.new.disk)) }
@@ -141,7 +141,7 @@ fn run_on_journal<R: Wait, D: Disk>(
     let count = journal.count();
     let length = journal.length();
     if !resumed && count > 0 {
-        return Err(NoStore::BadStore(StoreFault::Used(count)));
+        return Err(StoreError::BadStore(StoreFault::Used(count)));
     }
     let window = input.job.window;
     match run_stored_on(
@@ -182,7 +182,7 @@ fn run_stored_on<R: Wait, D: Disk>(
     requires machines { journal.old.header.machines ≡ job.now.machines }
     requires fresh { resumed ≡ false → journal.old.count ≡ 0 }
     requires well { journal.old.failed ≡ false }
-    ensures run { IsTrue D.told →
+    ensures run { IsTrue D.observable →
         IfOk result (IsStoreRunFrom (job_view job.now) graph.now cut.now
         (update_of job.now.algorithm job.now.source) journal.old.header saves_end window resumed
         journal.old.count (snapshots_in D.past journal.old) (D.past journal.old.disk)
@@ -191,7 +191,7 @@ fn run_stored_on<R: Wait, D: Disk>(
         Rose (D.faults journal.old.disk) (D.faults journal.new.disk)) }
     ensures printable { IfOk result (IsPrintable graph.now) }
     ensures refused { IfErr result
-        (IsWhyNoneStored (IsTrue D.told) (job_view job.now) graph.now cut.now
+        (RunStoredErrorCause (IsTrue D.observable) (job_view job.now) graph.now cut.now
         (update_of job.now.algorithm job.now.source) journal.old.header
         (snapshots_in D.past journal.old) (D.past journal.old.disk) (D.past journal.new.disk)
         (D.faults journal.old.disk) (D.faults journal.new.disk)) }
@@ -227,7 +227,7 @@ fn run_stored_by<R: Wait, D: Disk, P: Program>(
     requires machines { journal.old.header.machines ≡ job.now.machines }
     requires fresh { resumed ≡ false → journal.old.count ≡ 0 }
     requires well { journal.old.failed ≡ false }
-    ensures run { IsTrue D.told →
+    ensures run { IsTrue D.observable →
         IfOk result (IsStoreRunFrom (job_view job.now) graph.now cut.now (P.meaning program)
         journal.old.header saves_end window resumed
         journal.old.count (snapshots_in D.past journal.old) (D.past journal.old.disk)
@@ -236,7 +236,7 @@ fn run_stored_by<R: Wait, D: Disk, P: Program>(
         Rose (D.faults journal.old.disk) (D.faults journal.new.disk)) }
     ensures printable { IfOk result (IsPrintable graph.now) }
     ensures refused { IfErr result
-        (IsWhyNoneStored (IsTrue D.told) (job_view job.now) graph.now cut.now
+        (RunStoredErrorCause (IsTrue D.observable) (job_view job.now) graph.now cut.now
         (P.meaning program) journal.old.header
         (snapshots_in D.past journal.old) (D.past journal.old.disk) (D.past journal.new.disk)
         (D.faults journal.old.disk) (D.faults journal.new.disk)) }
@@ -268,38 +268,38 @@ fn run_stored_by<R: Wait, D: Disk, P: Program>(
 }
 
 /// Why there is no run where the store's file was not opened.
-fn not_opened(fault: OpenFault) -> NoStore
+fn not_opened(fault: OpenFault) -> StoreError
     ensures { result ≡ no_store_of_open fault }
 {
     match fault {
-        OpenFault::Failed => NoStore::DiskFault,
-        OpenFault::NoMemory => NoStore::NoMemory,
+        OpenFault::Failed => StoreError::DiskFault,
+        OpenFault::NoMemory => StoreError::NoMemory,
     }
 }
 
 /// Why no run came from an open store of so many bytes. One that is not as calls leave it is bad
 /// where it ends.
-fn why_not_run_from(fault: JournalFault, length: u64) -> NoStore
+fn why_not_run_from(fault: JournalFault, length: u64) -> StoreError
     ensures { result ≡ no_store_of_run fault length }
 {
     match fault {
-        JournalFault::BadStore(_) => NoStore::BadStore(StoreFault::BadByte(length)),
+        JournalFault::BadStore(_) => StoreError::BadStore(StoreFault::BadByte(length)),
         JournalFault::DiskFault | JournalFault::Failed | JournalFault::Full { .. } => {
-            NoStore::DiskFault
+            StoreError::DiskFault
         }
-        JournalFault::NoMemory => NoStore::NoMemory,
+        JournalFault::NoMemory => StoreError::NoMemory,
     }
 }
 
 /// Why there is no run where the store could not be opened.
-fn why_not_run(fault: JournalFault) -> NoStore
+fn why_not_run(fault: JournalFault) -> StoreError
     ensures { result ≡ no_store_of_journal fault }
 {
     match fault {
-        JournalFault::BadStore(fault) => NoStore::BadStore(fault),
+        JournalFault::BadStore(fault) => StoreError::BadStore(fault),
         JournalFault::DiskFault | JournalFault::Failed | JournalFault::Full { .. } => {
-            NoStore::DiskFault
+            StoreError::DiskFault
         }
-        JournalFault::NoMemory => NoStore::NoMemory,
+        JournalFault::NoMemory => StoreError::NoMemory,
     }
 }

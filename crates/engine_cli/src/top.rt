@@ -8,7 +8,7 @@ ghost use Rattle.engine_cli.specs.declared.status.Status.TheVariants.{Done, Usag
 ghost use Rattle.engine_cli.specs.Status.{IsBeforeWriting, IsRefusal};
 ghost use Rattle.engine_cli.specs.Made.{IsAsked, IsOfFiles};
 ghost use Rattle.engine_cli.specs.Notes.{WritesNote, note_of};
-ghost use Rattle.engine_cli.specs.Says.{moment};
+ghost use Rattle.engine_cli.specs.StatusMeanings.{moment};
 ghost use Rattle.engine_cli.specs.Inner.Prepares.{IsOfRun};
 ghost use Rattle.engine_cli.specs.JobRuns.{lists_of_call, no_lists};
 ghost use Rattle.engine_cli.specs.Verbs.{IsCall, IsQuiet, IsRun};
@@ -58,7 +58,7 @@ pub fn engine<R: Wait, F: Files, K: Sink, N: Sink, G: Gate + Sync>(
 
     // What the verb leaves, by each status.
     ensures verb { (asked : Words) → IsCommandLine (texts words.now) asked →
-        IsCall F.disks_told asked (moment (F.state files.old) (K.faults out.old) (K.held out.old))
+        IsCall F.disks_observable asked (moment (F.state files.old) (K.faults out.old) (K.held out.old))
         (moment (F.state files.new) (K.faults out.new) (K.held out.new))
         (λ report. WritesNote report (N.held note.old) (N.held note.new) (N.faults note.old)
         (N.faults note.new)) result }
@@ -104,7 +104,7 @@ fn do_command<R: Wait, F: Files, K: Sink, N: Sink>(
     note: &mut N,
 ) -> Ended
     requires { IsAsked asked.now }
-    ensures verb { IsCall F.disks_told asked.now
+    ensures verb { IsCall F.disks_observable asked.now
         (moment (F.state files.old) (K.faults out.old) (K.held out.old))
         (moment (F.state files.new) (K.faults out.new) (K.held out.new))
         (λ report. WritesNote report (N.held note.old) (N.held note.new) (N.faults note.old)
@@ -161,7 +161,7 @@ fn run_file<R: Wait, F: Files, K: Sink, N: Sink>(
     note: &mut N,
 ) -> Ended
     requires { IsOfRun asked }
-    ensures run { IsRun F.disks_told asked file.now is_reported
+    ensures run { IsRun F.disks_observable asked file.now is_reported
         (moment (F.state files.old) (K.faults out.old) (K.held out.old))
         (moment (F.state files.new) (K.faults out.new) (K.held out.new))
         (λ report. WritesNote report (N.held note.old) (N.held note.new) (N.faults note.old)

@@ -4,8 +4,8 @@ use Rattle.std.specs.Prelude.{Err, IfOk, IfSome, None, Ok, Option, Result, Some}
 use Rattle.gl_base.specs.declared.entries.Entry.{Entry}
 use Rattle.gl_base.specs.declared.numbers.MachineNo.{MachineNo}
 use Rattle.engine_runs.proofs.rollback.Keepings.{known_on}
-use Rattle.engine_runs.specs.rollback.Failing.{HaveFailedSince, InEachCourse}
-use Rattle.engine_runs.specs.rollback.Returning.{HasReachedSome, IsWhyNotBack}
+use Rattle.engine_runs.specs.rollback.Failing.{HaveFailedSince, InEachTrace}
+use Rattle.engine_runs.specs.rollback.Returning.{HasReachedSome, GoBackErrorCause}
 use Rattle.cluster_step.proofs.trace.Calling.{low_machine}
 use Rattle.recovery.specs.declared.restarts.restarts.Restarts.{Restarts}
 use Rattle.cluster_step.specs.declared.drive.pauses.Pause.TheVariants as pause
@@ -15,60 +15,60 @@ use Rattle.store.specs.declared.snap_journal.faults.JournalFault.TheVariants as 
 use Rattle.engine_runs.specs.declared.answers.runs.StoredEnd.{StoredEnd}
 use Rattle.engine_runs.specs.declared.answers.runs.StoredEnd.TheVariants as end
 use Rattle.engine_runs.proofs.Going.{still_there}
-use Rattle.engine_runs.specs.Calls.{CallOpening, CourseView, DiskPast, EngineSaver, Header, IsCallAt, IsCallEnded, IsEngineSaverOf, IsKnownAt, IsKnownCourse, JournalState, PausesSo, Setting, snapshots_in}
+use Rattle.engine_runs.specs.Calls.{CallOpening, TraceView, DiskPast, AnyMachine, Header, IsCallAt, IsCallEnded, IsAnyMachineOf, IsKnownAt, IsKnownTrace, JournalState, PauseMeaning, Setting, snapshots_in}
 use Rattle.engine_runs.specs.declared.calls.StoredCall.{StoredCall}
 use Rattle.update_api.specs.Updates.{Update}
 
-pub some_reached : {P : Type 0} (meaning : P → Update) (v : CourseView (EngineSaver P)) (header : Header) (start bodies : List (List ℕ)) (lost stored front order : List Entry) (st : Setting) (o : CallOpening)
-    (known : IsKnownCourse (IsEngineSaverOf meaning) v header start bodies lost stored front order st o) (m : MachineNo) → PausesSo (IsEngineSaverOf meaning) v (pause.Reached m) → HasReachedSome v st known.was.cluster
+pub some_reached : {P : Type 0} (meaning : P → Update) (v : TraceView (AnyMachine P)) (header : Header) (start bodies : List (List ℕ)) (lost stored front order : List Entry) (st : Setting) (o : CallOpening)
+    (known : IsKnownTrace (IsAnyMachineOf meaning) v header start bodies lost stored front order st o) (m : MachineNo) → PauseMeaning (IsAnyMachineOf meaning) v (pause.Reached m) → HasReachedSome v st known.was.cluster
 some_reached meaning v header start bodies lost stored front order st o known m reached =
-    (m.0, low_machine (IsEngineSaverOf meaning) v st o known.was.events known.was.cluster known.was.now m.0 reached.0, reached.1 st o known.was.events known.was.cluster known.was.now)
+    (m.0, low_machine (IsAnyMachineOf meaning) v st o known.was.events known.was.cluster known.was.now m.0 reached.0, reached.1 st o known.was.events known.was.cluster known.was.now)
 
 module _ {D P : Type 0} (meaning : P → Update) (past : D → DiskPast) (call later : StoredCall P) (journal after : JournalState D) (start : List (List ℕ)) (first : DiskPast) (st : Setting) (o : CallOpening)
-    (failures : later.course.failures ≡ call.course.failures) (header : after.header ≡ journal.header) (well : journal.failed ≡ false) (at : IsCallAt meaning past call journal start first st o) where
+    (failures : later.trace.failures ≡ call.trace.failures) (header : after.header ≡ journal.header) (well : journal.failed ≡ false) (at : IsCallAt meaning past call journal start first st o) where
   abbrev had : List (List ℕ)
   had = start ++ at.added
 
   -- all went back
-  pub gone_back : later.snapshots.items ≡ call.snapshots.items → past after.disk ≡ past journal.disk → (m : MachineNo) → PausesSo (IsEngineSaverOf meaning) call.course (pause.Reached m) →
-      ((known : IsKnownAt meaning call.course call journal.header start (snapshots_in past journal) st o) → HasReachedSome call.course st known.was.cluster → IsKnownAt meaning later.course later journal.header start (snapshots_in past journal) st o) →
+  pub gone_back : later.snapshots.items ≡ call.snapshots.items → past after.disk ≡ past journal.disk → (m : MachineNo) → PauseMeaning (IsAnyMachineOf meaning) call.trace (pause.Reached m) →
+      ((known : IsKnownAt meaning call.trace call journal.header start (snapshots_in past journal) st o) → HasReachedSome call.trace st known.was.cluster → IsKnownAt meaning later.trace later journal.header start (snapshots_in past journal) st o) →
       IsCallAt meaning past later after start first st o
   gone_back lines disk m reached back =
-      let known : IsKnownAt meaning call.course call journal.header start (snapshots_in past journal) st o =
-      subst (λ (bodies : List (List ℕ)). IsKnownAt meaning call.course call journal.header start bodies st o) (sym (at.stored well)) at.known in
-      let now : IsKnownAt meaning later.course later journal.header start (snapshots_in past journal) st o =
-      back known (some_reached meaning call.course journal.header start (snapshots_in past journal) call.lost.items call.restarts.stored.items call.restarts.front.items call.order.items st o known m reached) in
+      let known : IsKnownAt meaning call.trace call journal.header start (snapshots_in past journal) st o =
+      subst (λ (bodies : List (List ℕ)). IsKnownAt meaning call.trace call journal.header start bodies st o) (sym (at.stored well)) at.known in
+      let now : IsKnownAt meaning later.trace later journal.header start (snapshots_in past journal) st o =
+      back known (some_reached meaning call.trace journal.header start (snapshots_in past journal) call.lost.items call.restarts.stored.items call.restarts.front.items call.order.items st o known m reached) in
       still_there meaning past call later journal after start first st o failures header well at lines disk
-      (subst (λ (h : Header). IsKnownAt meaning later.course later h start had st o) (sym header) (subst (λ (bodies : List (List ℕ)). IsKnownAt meaning later.course later journal.header start bodies st o) (at.stored well) now))
+      (subst (λ (h : Header). IsKnownAt meaning later.trace later h start had st o) (sym header) (subst (λ (bodies : List (List ℕ)). IsKnownAt meaning later.trace later journal.header start bodies st o) (at.stored well) now))
 
   -- machines may have failed, and the lists are as they were
-  pub known_later : InEachCourse (IsEngineSaverOf meaning) call.course (HaveFailedSince (IsEngineSaverOf meaning) later.course (λ a. ⊥)) → later.restarts ≡ call.restarts → later.lost.items ≡ call.lost.items → later.order.items ≡ call.order.items →
-      IsKnownAt meaning later.course later after.header start had st o
+  pub known_later : InEachTrace (IsAnyMachineOf meaning) call.trace (HaveFailedSince (IsAnyMachineOf meaning) later.trace (λ a. ⊥)) → later.restarts ≡ call.restarts → later.lost.items ≡ call.lost.items → later.order.items ≡ call.order.items →
+      IsKnownAt meaning later.trace later after.header start had st o
   known_later fails restarts lost order =
-      let known : IsKnownCourse (IsEngineSaverOf meaning) later.course journal.header start had call.lost.items call.restarts.stored.items call.restarts.front.items call.order.items st o =
-      known_on (IsEngineSaverOf meaning) call.course later.course failures journal.header start had call.lost.items call.restarts.stored.items call.restarts.front.items call.order.items st o (λ a. ⊥) at.known
+      let known : IsKnownTrace (IsAnyMachineOf meaning) later.trace journal.header start had call.lost.items call.restarts.stored.items call.restarts.front.items call.order.items st o =
+      known_on (IsAnyMachineOf meaning) call.trace later.trace failures journal.header start had call.lost.items call.restarts.stored.items call.restarts.front.items call.order.items st o (λ a. ⊥) at.known
       (fails st o at.known.was.events at.known.was.cluster at.known.was.now) in
-      let listed : IsKnownAt meaning later.course later journal.header start had st o =
-      subst (λ (es : List Entry). IsKnownCourse (IsEngineSaverOf meaning) later.course journal.header start had es later.restarts.stored.items later.restarts.front.items later.order.items st o) (sym lost)
-      (subst (λ (r : Restarts). IsKnownCourse (IsEngineSaverOf meaning) later.course journal.header start had call.lost.items r.stored.items r.front.items later.order.items st o) (sym restarts)
-      (subst (λ (es : List Entry). IsKnownCourse (IsEngineSaverOf meaning) later.course journal.header start had call.lost.items call.restarts.stored.items call.restarts.front.items es st o) (sym order) known)) in
-      subst (λ (h : Header). IsKnownAt meaning later.course later h start had st o) (sym header) listed
+      let listed : IsKnownAt meaning later.trace later journal.header start had st o =
+      subst (λ (es : List Entry). IsKnownTrace (IsAnyMachineOf meaning) later.trace journal.header start had es later.restarts.stored.items later.restarts.front.items later.order.items st o) (sym lost)
+      (subst (λ (r : Restarts). IsKnownTrace (IsAnyMachineOf meaning) later.trace journal.header start had call.lost.items r.stored.items r.front.items later.order.items st o) (sym restarts)
+      (subst (λ (es : List Entry). IsKnownTrace (IsAnyMachineOf meaning) later.trace journal.header start had call.lost.items call.restarts.stored.items call.restarts.front.items es st o) (sym order) known)) in
+      subst (λ (h : Header). IsKnownAt meaning later.trace later h start had st o) (sym header) listed
 
   -- they didn't go back
-  pub not_back : later.snapshots.items ≡ call.snapshots.items → past after.disk ≡ past journal.disk → InEachCourse (IsEngineSaverOf meaning) call.course (HaveFailedSince (IsEngineSaverOf meaning) later.course (λ a. ⊥)) → later.restarts ≡ call.restarts → later.lost.items ≡ call.lost.items →
+  pub not_back : later.snapshots.items ≡ call.snapshots.items → past after.disk ≡ past journal.disk → InEachTrace (IsAnyMachineOf meaning) call.trace (HaveFailedSince (IsAnyMachineOf meaning) later.trace (λ a. ⊥)) → later.restarts ≡ call.restarts → later.lost.items ≡ call.lost.items →
       later.order.items ≡ call.order.items → IsCallAt meaning past later after start first st o
   not_back lines disk fails restarts lost order = still_there meaning past call later journal after start first st o failures header well at lines disk (known_later fails restarts lost order)
 
 -- a fault of the disk ends it where it is
 pub ended_here : {D P : Type 0} (meaning : P → Update) (past : D → DiskPast) (call : StoredCall P) (journal : JournalState D) (start : List (List ℕ)) (first : DiskPast) (st : Setting) (o : CallOpening) →
     IsCallAt meaning past call journal start first st o → IsCallEnded meaning past call journal start first st o end.DiskFault
-ended_here meaning past call journal start first st o at = record { at = at; paused = call.course; known = at.known; failures = refl; now = at.known.was.now; gives = tt }
+ended_here meaning past call journal start first st o at = record { at = at; paused = call.trace; known = at.known; failures = refl; now = at.known.was.now; gives = tt }
 
 -- ---- why they didn't
 
-pub disk_failed : (told full : Type 0) (old new : Bool) (before now : ℕ) (why : JournalFault) → why ≡ fault.DiskFault → IsWhyNotBack told full old new before now why → (new ≡ true) × Rose before now
+pub disk_failed : (told full : Type 0) (old new : Bool) (before now : ℕ) (why : JournalFault) → why ≡ fault.DiskFault → GoBackErrorCause told full old new before now why → (new ≡ true) × Rose before now
 disk_failed told full old new before now why same is =
-    let there = subst (IsWhyNotBack told full old new before now) same is in
+    let there = subst (GoBackErrorCause told full old new before now) same is in
     (there.1, there.2)
 
 -- it ended by a fault of the disk, where it did

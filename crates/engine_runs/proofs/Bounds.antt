@@ -9,7 +9,7 @@ use Rattle.call_laws.proofs.attempts.Failing.{call_restarts}
 use Rattle.call_laws.specs.attempts.Accounted.{AreRestarts}
 use Rattle.call_laws.specs.attempts.Entries.{is_restart}
 use Rattle.call_laws.specs.attempts.EngineCalls.{EngineCall, done_of, fired_of, struck_in}
-use Rattle.cluster_step.specs.trace.Courses.{CallOpening, Cluster, CourseView, Machine, Setting}
+use Rattle.cluster_step.specs.trace.Traces.{CallOpening, Cluster, TraceView, Machine, Setting}
 use Rattle.cluster_laws.specs.cluster_model.Clusters.{BaseView}
 use Rattle.cluster_laws.specs.cluster_model.Events.{Event, failures_in}
 use Rattle.cluster_laws.specs.cluster_model.Totals.{total_from}
@@ -20,10 +20,10 @@ use Rattle.store.specs.store_format.Bodies.{body_size}
 use Rattle.store.specs.store_format.Stores.{read_store}
 use Rattle.store.specs.declared.store_format.faults.StoreFault.{StoreFault}
 use Rattle.store.specs.declared.store_format.header.Header.{Header}
-use Rattle.engine_runs.specs.stores.Stores.{IsKnownCourse, stored_order}
+use Rattle.engine_runs.specs.stores.Stores.{IsKnownTrace, stored_order}
 use Rattle.call_laws.proofs.whole_calls.Calling.{the_call}
 use Rattle.call_laws.specs.whole_calls.Called.{IsCallOf}
-use Rattle.call_laws.specs.whole_calls.Opened.{IsCourseOfCall}
+use Rattle.call_laws.specs.whole_calls.Opened.{IsTraceOfCall}
 
 -- ---- how many there are
 
@@ -53,12 +53,12 @@ failures_few st c = flags_few (λ a. (c.machine a).failed) 0 st.machines
 all_few : (front made base new fired struck_before struck failures first : ℕ) → front + made ≡ base + new → new ≡ first + struck_before → fired ≡ struck_before + struck → fired ≤ failures → first ≤ 1 → front ≤ base + 1 + failures
 all_few front made base new fired struck_before struck failures first parts many all few one = omega arith
 
-module _ (st : Setting) (failures : List FailureAt) (kept : List Entry) (resumed : Bool) (base : BaseView) (first : Cluster) (events : List Event) (c : Cluster) (course : IsCourseOfCall st failures kept resumed base first events c) where
+module _ (st : Setting) (failures : List FailureAt) (kept : List Entry) (resumed : Bool) (base : BaseView) (first : Cluster) (events : List Event) (c : Cluster) (trace : IsTraceOfCall st failures kept resumed base first events c) where
   abbrev call : EngineCall
-  call = (the_call st failures kept resumed base first events c course).0
+  call = (the_call st failures kept resumed base first events c trace).0
 
   its : IsCallOf st failures kept resumed c call
-  its = (the_call st failures kept resumed base first events c course).1
+  its = (the_call st failures kept resumed base first events c trace).1
 
   are : AreRestarts (shared_of st failures) call
   are = call_restarts (shared_of st failures) call its.is
@@ -109,15 +109,15 @@ short_enough : (place stored size front kept failed failures machines long order
     failures ≤ 65536 → failed ≤ machines → machines < 65535 → 2 ^ 32 ≤ place + 16 * failed → ⊥
 short_enough place stored size front kept failed failures machines long order whole at few low less sized is short failures_low failed_low machines_low over = omega arith
 
-module _ {M : Type 0} (stands : Setting → ℕ → Machine → M → Type 0) (v : CourseView M) (header : Header) (start bodies : List (List ℕ)) (lost stored front order : List Entry) (st : Setting) (o : CallOpening)
-    (k : IsKnownCourse stands v header start bodies lost stored front order st o) (bytes : List ℕ) (bodies_are : stored_in header bytes ≡ bodies) (failures_low : length v.failures ≤ 65536) (machines_low : st.machines < 65535)
+module _ {M : Type 0} (represents : Setting → ℕ → Machine → M → Type 0) (v : TraceView M) (header : Header) (start bodies : List (List ℕ)) (lost stored front order : List Entry) (st : Setting) (o : CallOpening)
+    (k : IsKnownTrace represents v header start bodies lost stored front order st o) (bytes : List ℕ) (bodies_are : stored_in header bytes ≡ bodies) (failures_low : length v.failures ≤ 65536) (machines_low : st.machines < 65535)
     (long : ℕ) (long_is : long ≡ 65 + records_size bodies) (short : long ≤ 2 ^ 30) where
   pub never_far : 2 ^ 32 ≤ k.was.cluster.coordinator.store_end + 16 * failures_in st k.was.cluster → ⊥
   never_far =
       short_enough k.was.cluster.coordinator.store_end (length stored) (records_size bodies) (length front) (length (filter is_restart o.kept)) (failures_in st k.was.cluster) (length v.failures) st.machines long (length (stored_order start)) (length (stored_order bodies))
       k.place
       (subst (λ (es : List Entry). length es ≤ length (filter is_restart o.kept) + 1 + length v.failures) (sym (k.front_are ∙ ap (filter is_restart) (sym k.base)))
-      (restarts_few st v.failures o.kept o.resumed o.base o.first k.was.events k.was.cluster k.was.now.course))
+      (restarts_few st v.failures o.kept o.resumed o.base o.first k.was.events k.was.cluster k.was.now.trace))
       (subst (λ (es : List Entry). length (filter is_restart o.kept) ≤ length es) k.kept (filter_few is_restart o.kept))
       (subst (λ (bs : List (List ℕ)). length (stored_order start) ≤ length (stored_order bs)) (sym k.was.keeps.stored) (start_shorter start k.was.keeps.added))
       (subst (λ (bs : List (List ℕ)). 16 * length (stored_order bs) ≤ records_size bs) bodies_are (stored_sized header bytes))

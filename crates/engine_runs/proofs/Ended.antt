@@ -6,17 +6,17 @@ use Rattle.gl_base.specs.declared.entries.Entry.{Entry}
 use Rattle.gl_base.specs.declared.jobs.FailureAt.{FailureAt}
 use Rattle.call_laws.specs.attempts.Stores.{snapshots_of}
 use Rattle.call_laws.specs.call_answers.Answers.{IsRunWithFailures, KeepsToWindow, RunLists, Shared}
-use Rattle.call_laws.specs.call_answers.Courses.{ListsOfCourse}
-use Rattle.engine_runs.specs.finish.Ends.{CallEndsSo, IsEndedRun}
+use Rattle.call_laws.specs.call_answers.Traces.{ListsOfTrace}
+use Rattle.engine_runs.specs.finish.Ends.{CallEndMeaning, IsEndedRun}
 use Rattle.engine_runs.specs.finish.Gathered.{GathersFrom, IsGathered, gathered_lists}
 use Rattle.engine_runs.specs.declared.finish.gathering.CallLists.{CallLists}
 use Rattle.cluster_laws.specs.cluster_model.Events as law
 use Rattle.graph_core.specs.DataGraph.{DataGraph}
-use Rattle.engine_runs.specs.answers.Ends.{RunEndsSo}
+use Rattle.engine_runs.specs.answers.Ends.{RunEndMeaning}
 use Rattle.engine_runs.specs.declared.answers.runs.StoredEnd.{StoredEnd}
 use Rattle.engine_runs.specs.declared.answers.runs.StoredEnd.TheVariants as end
-use Rattle.engine_runs.specs.Calls.{AreSnapLines, CallOpening, Cluster, Header, IsEngineSaverOf, IsRunAt, PauseGives, Setting, orders_behind, shared_of, stored_order}
-use Rattle.engine_runs.specs.Runs.{HasCourseOf, IsEndAt, IsRunSo}
+use Rattle.engine_runs.specs.Calls.{AreSnapLines, CallOpening, Cluster, Header, IsAnyMachineOf, IsRunAt, PauseGives, Setting, orders_behind, shared_of, stored_order}
+use Rattle.engine_runs.specs.Runs.{HasTraceOf, IsEndAt, IsRunSo}
 use Rattle.engine_runs.specs.declared.calls.StoredCall.{StoredCall}
 use Rattle.update_api.specs.Updates.{Update}
 
@@ -32,16 +32,16 @@ module _ {P : Type 0} (meaning : P → Update) (g : DataGraph) (program : Update
   gathers = record { graph = runs.placed.graph; owners = runs.placed.owners; base = at.known.base; taken = at.known.was.taken }
 
   -- and they are its lists
-  pub course_so : (failures : List FailureAt) → call.course.failures ≡ failures → (lists : CallLists) → IsGathered call.course.failures st o events c lists → HasCourseOf failures st o events c (gathered_lists lists)
-  course_so failures same lists is = subst (λ (fs : List FailureAt). HasCourseOf fs st o events c (gathered_lists lists)) same (at.now.course, is.are)
+  pub trace_so : (failures : List FailureAt) → call.trace.failures ≡ failures → (lists : CallLists) → IsGathered call.trace.failures st o events c lists → HasTraceOf failures st o events c (gathered_lists lists)
+  trace_so failures same lists is = subst (λ (fs : List FailureAt). HasTraceOf fs st o events c (gathered_lists lists)) same (at.now.trace, is.are)
 
-  module _ (failures : List FailureAt) (same : call.course.failures ≡ failures) (running : call.course.now.stopped ≡ false) (lists : CallLists) (is : IsGathered call.course.failures st o events c lists)
-      (ended : ListsOfCourse st at.paused.failures o.base o.first events c (gathered_lists lists) → IsEndedRun (IsEngineSaverOf meaning) at.paused start (start ++ added) st o events c (gathered_lists lists)) where
+  module _ (failures : List FailureAt) (same : call.trace.failures ≡ failures) (running : call.trace.now.stopped ≡ false) (lists : CallLists) (is : IsGathered call.trace.failures st o events c lists)
+      (ended : ListsOfTrace st at.paused.failures o.base o.first events c (gathered_lists lists) → IsEndedRun (IsAnyMachineOf meaning) at.paused start (start ++ added) st o events c (gathered_lists lists)) where
     abbrev found : RunLists
     found = gathered_lists lists
 
-    all : IsEndedRun (IsEngineSaverOf meaning) at.paused start (start ++ added) st o events c found
-    all = ended (subst (λ (fs : List FailureAt). ListsOfCourse st fs o.base o.first events c found) (sym at.failures) is.are)
+    all : IsEndedRun (IsAnyMachineOf meaning) at.paused start (start ++ added) st o events c found
+    all = ended (subst (λ (fs : List FailureAt). ListsOfTrace st fs o.base o.first events c found) (sym at.failures) is.are)
 
     orders : snapshots_of all.call ≡ orders_behind (stored_order start) added
     orders = sym all.snapshots ∙ ap (orders_behind (stored_order start)) (sym (append_cancel_left start added all.added all.stored))
@@ -49,19 +49,19 @@ module _ {P : Type 0} (meaning : P → Update) (g : DataGraph) (program : Update
     shared_is : shared_of st at.paused.failures ≡ shared_of st failures
     shared_is = ap (λ (fs : List FailureAt). shared_of st fs) (at.failures ∙ same)
 
-    ends_by : (e : StoredEnd) → PauseGives call.saves_end meaning at.paused (start ++ added) st o c e → CallEndsSo call.saves_end at.paused st o (length start) all.call found e
+    ends_by : (e : StoredEnd) → PauseGives call.saves_end meaning at.paused (start ++ added) st o c e → CallEndMeaning call.saves_end at.paused st o (length start) all.call found e
     ends_by end.Finished (inl ended) = all.finished call.saves_end ended
-    ends_by end.Finished (inr quiet) = subst (λ (saves : Bool). CallEndsSo saves at.paused st o (length start) all.call found end.Finished) (sym quiet.0) (all.quiet quiet.1)
+    ends_by end.Finished (inr quiet) = subst (λ (saves : Bool). CallEndMeaning saves at.paused st o (length start) all.call found end.Finished) (sym quiet.0) (all.quiet quiet.1)
     ends_by (end.Spent left) gives = all.spent gives.0 left gives.1 call.saves_end
     ends_by (end.Full stored bytes) gives =
-        subst₂ (λ (n k : ℕ). CallEndsSo call.saves_end at.paused st o (length start) all.call found (end.Full n k)) (sym gives.0) (sym gives.1)
+        subst₂ (λ (n k : ℕ). CallEndMeaning call.saves_end at.paused st o (length start) all.call found (end.Full n k)) (sym gives.0) (sym gives.1)
         (all.full gives.2 (gives.3 events c at.known.was.now all.call all.makes (at.now.code.stopped ∙ running)) call.saves_end)
     ends_by end.DiskFault gives = tt
 
-    ends_so : RunEndsSo call.saves_end (shared_of st failures) st.machines st.window o.first.left (length start) (stored_order start) (orders_behind (stored_order start) added) all.call.last.struck found how
+    ends_so : RunEndMeaning call.saves_end (shared_of st failures) st.machines st.window o.first.left (length start) (stored_order start) (orders_behind (stored_order start) added) all.call.last.struck found how
     ends_so =
-        subst (λ (s : Shared). RunEndsSo call.saves_end s st.machines st.window o.first.left (length start) (stored_order start) (orders_behind (stored_order start) added) all.call.last.struck found how) shared_is
-        (subst₂ (λ (ks : List Entry) (os : List (List Entry)). RunEndsSo call.saves_end (shared_of st at.paused.failures) st.machines st.window o.first.left (length start) ks os all.call.last.struck found how) at.known.kept orders (ends_by how at.gives))
+        subst (λ (s : Shared). RunEndMeaning call.saves_end s st.machines st.window o.first.left (length start) (stored_order start) (orders_behind (stored_order start) added) all.call.last.struck found how) shared_is
+        (subst₂ (λ (ks : List Entry) (os : List (List Entry)). RunEndMeaning call.saves_end (shared_of st at.paused.failures) st.machines st.window o.first.left (length start) ks os all.call.last.struck found how) at.known.kept orders (ends_by how at.gives))
 
     pub run_so : IsRunSo call.saves_end st failures o start added (record { order = lists.order; lost = lists.lost; done = lists.done; fired = lists.fired; snapshots = call.snapshots; numbers = lists.numbers; end = how })
     run_so = record {

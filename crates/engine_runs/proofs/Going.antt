@@ -11,8 +11,8 @@ use Rattle.engine_runs.specs.append.Appends.{HasOneMore, IsGoodImage}
 use Rattle.cluster_laws.specs.cluster_runs.Attempts.{Shared}
 use Rattle.recovery.proofs.Goodness.{orders_more}
 use Rattle.recovery.specs.GoodStores.{IsGoodStore}
-use Rattle.store.specs.snap_journal.Formats.{StandsFor, body_entries, order_behind, with_entries}
-use Rattle.store.specs.snap_journal.Journals.{AllStandFor}
+use Rattle.store.specs.snap_journal.Formats.{DecodesTo, body_entries, order_behind, with_entries}
+use Rattle.store.specs.snap_journal.Journals.{AllDecodeTo}
 use Rattle.engine_runs.specs.answers.Lines.{IsLineOf}
 use Rattle.engine_runs.specs.declared.answers.runs.SnapLine.{SnapLine}
 use Rattle.engine_runs.proofs.Lines.{one_line_more}
@@ -29,7 +29,7 @@ begins_less shared header start added image holds =
     let same : (start ++ added) ++ holds.behind ≡ start ++ (added ++ holds.behind) = append_assoc start added holds.behind in
     record {
       behind = added ++ holds.behind;
-      stands = subst (λ (bodies : List (List ℕ)). StandsFor header bodies image) same holds.stands;
+      stands = subst (λ (bodies : List (List ℕ)). DecodesTo header bodies image) same holds.stands;
       good = subst (λ (bodies : List (List ℕ)). IsGoodStore shared header bodies) same holds.good;
     }
 
@@ -40,24 +40,24 @@ either_begins shared header bodies image is = ⊎_elim
     let whole : is.stored ≡ bodies ++ [] = same ∙ sym (append-nil bodies) in
     record {
       behind = [];
-      stands = subst (λ (these : List (List ℕ)). StandsFor header these image) whole is.is;
+      stands = subst (λ (these : List (List ℕ)). DecodesTo header these image) whole is.is;
       good = subst (λ (these : List (List ℕ)). IsGoodStore shared header these) whole is.good;
     })
     (λ (more : (body : List ℕ) × (is.stored ≡ bodies ++ body ∷ [])).
     record {
       behind = more.0 ∷ [];
-      stands = subst (λ (these : List (List ℕ)). StandsFor header these image) more.1 is.is;
+      stands = subst (λ (these : List (List ℕ)). DecodesTo header these image) more.1 is.is;
       good = subst (λ (these : List (List ℕ)). IsGoodStore shared header these) more.1 is.good;
     })
     is.either
 
 -- what stands for a good store begins with its snapshots
-pub all_begin : (shared : Shared) (header : Header) (bodies : List (List ℕ)) (now : DiskPast) → IsGoodStore shared header bodies → AllStandFor header bodies now →
+pub all_begin : (shared : Shared) (header : Header) (bodies : List (List ℕ)) (now : DiskPast) → IsGoodStore shared header bodies → AllDecodeTo header bodies now →
     (image : List ℕ) → IsImage now.now image → HoldsGood shared header bodies image
 all_begin shared header bodies now good all image is =
     record {
       behind = [];
-      stands = subst (λ (these : List (List ℕ)). StandsFor header these image) (sym (append-nil bodies)) (all image is);
+      stands = subst (λ (these : List (List ℕ)). DecodesTo header these image) (sym (append-nil bodies)) (all image is);
       good = subst (λ (these : List (List ℕ)). IsGoodStore shared header these) (sym (append-nil bodies)) good;
     }
 
@@ -80,12 +80,12 @@ orders_long order [] = refl
 orders_long order (x ∷ xs) = ap suc (orders_long (with_entries order (body_entries x)) xs)
 
 module _ {D P : Type 0} (meaning : P → Update) (past : D → DiskPast) (call later : StoredCall P) (journal after : JournalState D) (start : List (List ℕ)) (first : DiskPast) (st : Setting) (o : CallOpening)
-    (failures : later.course.failures ≡ call.course.failures) (header : after.header ≡ journal.header) (well : journal.failed ≡ false) (at : IsCallAt meaning past call journal start first st o) where
+    (failures : later.trace.failures ≡ call.trace.failures) (header : after.header ≡ journal.header) (well : journal.failed ≡ false) (at : IsCallAt meaning past call journal start first st o) where
   abbrev shared : Shared
-  shared = shared_of st call.course.failures
+  shared = shared_of st call.trace.failures
 
   abbrev shared_later : Shared
-  shared_later = shared_of st later.course.failures
+  shared_later = shared_of st later.trace.failures
 
   shared_same : shared_later ≡ shared
   shared_same = ap (λ (fs : List FailureAt). shared_of st fs) failures
@@ -104,7 +104,7 @@ module _ {D P : Type 0} (meaning : P → Update) (past : D → DiskPast) (call l
   moments_later leaves = leaves_more first (past after.disk) (HoldsGood shared journal.header start) (HoldsGood shared_later after.header start) (holds_later start) leaves
 
   -- the journal's disk stands as it was
-  pub still_there : later.snapshots.items ≡ call.snapshots.items → past after.disk ≡ past journal.disk → IsKnownAt meaning later.course later after.header start had st o →
+  pub still_there : later.snapshots.items ≡ call.snapshots.items → past after.disk ≡ past journal.disk → IsKnownAt meaning later.trace later after.header start had st o →
       IsCallAt meaning past later after start first st o
   still_there lines disk known = record {
     added = at.added;
@@ -118,7 +118,7 @@ module _ {D P : Type 0} (meaning : P → Update) (past : D → DiskPast) (call l
 
   -- the disk failed as a snapshot was added
   pub fault_there : later.snapshots.items ≡ call.snapshots.items → ((ok : after.failed ≡ false) → ⊥) → LeavesOnly (past journal.disk) (past after.disk) (IsGoodImage shared journal.header (snapshots_in past journal)) →
-      IsKnownAt meaning later.course later after.header start had st o → IsCallAt meaning past later after start first st o
+      IsKnownAt meaning later.trace later after.header start had st o → IsCallAt meaning past later after start first st o
   fault_there lines ill moments known = record {
     added = at.added;
     known = known;
@@ -137,12 +137,12 @@ module _ {D P : Type 0} (meaning : P → Update) (past : D → DiskPast) (call l
 
   -- a snapshot was added
   pub one_more : (line : SnapLine) → later.snapshots.items ≡ call.snapshots.items ++ line ∷ [] → (more : HasOneMore past journal after) →
-      IsKnownAt meaning later.course later after.header start (snapshots_in past after) st o → IsGoodStore shared after.header (snapshots_in past after) → AllStandFor after.header (snapshots_in past after) (past after.disk) →
+      IsKnownAt meaning later.trace later after.header start (snapshots_in past after) st o → IsGoodStore shared after.header (snapshots_in past after) → AllDecodeTo after.header (snapshots_in past after) (past after.disk) →
       IsLineOf shared (length (snapshots_in past after)) (stored_order (snapshots_in past after)) line →
       LeavesOnly (past journal.disk) (past after.disk) (IsGoodImage shared journal.header (snapshots_in past journal)) → IsCallAt meaning past later after start first st o
   one_more line lines more known good all is_line moments = record {
     added = more_added;
-    known = subst (λ (bodies : List (List ℕ)). IsKnownAt meaning later.course later after.header start bodies st o) now_is known;
+    known = subst (λ (bodies : List (List ℕ)). IsKnownAt meaning later.trace later after.header start bodies st o) now_is known;
     stored = λ ok. now_is;
     lines = subst (λ (ls : List SnapLine). AreSnapLines shared_later (suc (length start)) (orders_behind (stored_order start) more_added) ls) (sym lines)
         (subst (λ (s : Shared). AreSnapLines s (suc (length start)) (orders_behind (stored_order start) more_added) (call.snapshots.items ++ line ∷ [])) (sym shared_same)

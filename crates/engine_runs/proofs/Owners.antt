@@ -6,8 +6,8 @@ use Rattle.graph_core.specs.DataGraph.{DataGraph, IsDataGraph, size}
 use Rattle.placement.proofs.places.OwnerLemmas.{owner_low}
 use Rattle.placed_machines.proofs.RunLemmas.{engine_of, runs_by}
 use Rattle.placed_machines.specs.Beginning.{placed_owner}
-use Rattle.placed_machines.specs.declared.savers.Places.{Places}
-use Rattle.engine_runs.proofs.saver_courses.EngineLemmas.{coloured_by}
+use Rattle.placed_machines.specs.declared.placing.Places.{Places}
+use Rattle.engine_runs.proofs.attempt_machines.EngineLemmas.{coloured_by}
 use Rattle.engine_runs.specs.declared.answers.runs.StoredEnd.{StoredEnd}
 use Rattle.engine_runs.specs.declared.answers.runs.StoredPlan.{StoredPlan}
 use Rattle.engine_runs.specs.declared.answers.runs.StoredRun.{StoredRun}
@@ -62,7 +62,7 @@ with_owner g program cut plan places owner failures graph are same = record {
 
 -- what crashes leave of the store of a call
 pub kept_good : {D P : Type 0} (meaning : P → Update) (past : D → DiskPast) (call : StoredCall P) (after : JournalState D) (start : List (List ℕ)) (first : DiskPast) (st : Setting) (o : CallOpening) (shared : Shared) (header : Header) →
-    shared_of st call.course.failures ≡ shared → after.header ≡ header → (at : IsCallAt meaning past call after start first st o) → KeepsGood shared header start (orders_behind (stored_order start) at.added) first (past after.disk)
+    shared_of st call.trace.failures ≡ shared → after.header ≡ header → (at : IsCallAt meaning past call after start first st o) → KeepsGood shared header start (orders_behind (stored_order start) at.added) first (past after.disk)
 kept_good meaning past call after start first st o shared header shared_is header_is at = record {
   added = at.added;
   orders = refl;

@@ -12,7 +12,7 @@ use Rattle.recovery.specs.Journals.{records_size}
 use Rattle.engine_runs.proofs.Sizes.{never_needs}
 use Rattle.graph_core.specs.DataGraph.{DataGraph, IsDataGraph, size}
 use Rattle.placed_machines.specs.Beginning.{placed_owner}
-use Rattle.placed_machines.specs.declared.savers.Places.{Places}
+use Rattle.placed_machines.specs.declared.placing.Places.{Places}
 use Rattle.store.specs.snap_journal.Disks.{Rose}
 use Rattle.store.specs.declared.snap_journal.faults.JournalFault.{JournalFault}
 use Rattle.store.specs.declared.snap_journal.faults.JournalFault.TheVariants as fault
@@ -22,8 +22,8 @@ use Rattle.engine_runs.specs.declared.answers.runs.StoredEnd.TheVariants as end
 use Rattle.engine_runs.specs.declared.answers.runs.StoredPlan.{StoredPlan}
 use Rattle.engine_runs.specs.declared.answers.runs.StoredRun.{StoredRun}
 use Rattle.engine_runs.proofs.Owners.{HasOwner, end_at, kept_good, run_named, with_owner}
-use Rattle.engine_runs.specs.Calls.{CallOpening, DiskPast, EndsBy, EndsCall, Header, IsCallAt, IsCallEnded, IsEngineSaverOf, IsNotRefused, IsRunAt, IsWhyStopped, JournalState, KeepsCall, KeepsToBounds, Setting, orders_behind, shared_of, snapshots_in, stored_order}
-use Rattle.engine_runs.specs.Runs.{ArePlacedFor, BoundsSteps, HasCallBegun, HasCourseOf, HasRoomForRun, half_of, IsEndAt, IsFinishedOrNoMemory, IsGoodStore, IsPlacement, IsRunBy, IsRunSo, IsStoredRun, IsWhyNoRun, IsWhyNotBegun, KeepsByOwner, KeepsGood, RunLists, Shared, owned_shared}
+use Rattle.engine_runs.specs.Calls.{CallOpening, DiskPast, EndsBy, EndsCall, Header, IsCallAt, IsCallEnded, IsAnyMachineOf, IsNotRefused, IsRunAt, StoppedRunErrorCause, JournalState, KeepsCall, KeepsToBounds, Setting, orders_behind, shared_of, snapshots_in, stored_order}
+use Rattle.engine_runs.specs.Runs.{ArePlacedFor, BoundsSteps, HasCallBegun, HasTraceOf, HasRoomForRun, half_of, IsEndAt, IsFinishedOrNoMemory, IsGoodStore, IsPlacement, IsRunBy, IsRunSo, IsStoredRun, RunErrorCause, BeginErrorCause, KeepsByOwner, KeepsGood, RunLists, Shared, owned_shared}
 use Rattle.engine_runs.specs.declared.calls.StoredCall.{StoredCall}
 use Rattle.update_api.specs.Updates.{Update}
 
@@ -31,7 +31,7 @@ module _ {D P : Type 0} (meaning : P → Update) (past : D → DiskPast) (g : Da
     (graph : IsDataGraph g) (placed : ArePlacedFor g cut plan call.places)
     (one : (owner other : ℕ → ℕ) → IsPlacement g cut plan.run.machines owner → IsPlacement g cut plan.run.machines other → (v : ℕ) → v < size g → owner v ≡ other v)
     (begun : (st : Setting) → IsRunAt g program call.places st → IsGoodStore (shared_of st failures) journal.header (snapshots_in past journal) → HasCallBegun meaning past call journal mid resumed plan.run.budget st)
-    (same : later.course.failures ≡ failures) (header : after.header ≡ journal.header) where
+    (same : later.trace.failures ≡ failures) (header : after.header ≡ journal.header) where
   abbrev bodies : List (List ℕ)
   bodies = snapshots_in past journal
 
@@ -42,7 +42,7 @@ module _ {D P : Type 0} (meaning : P → Update) (past : D → DiskPast) (g : Da
   starts owner placement good =
       begun (has owner placement).st (has owner placement).runs (subst (λ (s : Shared). IsGoodStore s journal.header bodies) (sym (has owner placement).shared_is) good)
 
-  shared_later : (owner : ℕ → ℕ) (placement : IsPlacement g cut plan.run.machines owner) → shared_of (has owner placement).st later.course.failures ≡ owned_shared g program owner failures
+  shared_later : (owner : ℕ → ℕ) (placement : IsPlacement g cut plan.run.machines owner) → shared_of (has owner placement).st later.trace.failures ≡ owned_shared g program owner failures
   shared_later owner placement = ap (λ (fs : List FailureAt). shared_of (has owner placement).st fs) same ∙ (has owner placement).shared_is
 
   -- what crashes leave, wherever it stopped
@@ -75,7 +75,7 @@ module _ {D P : Type 0} (meaning : P → Update) (past : D → DiskPast) (g : Da
   -- which machines ran
   pub run_by : (how : StoredEnd) (lists : RunLists) → EndsCall meaning past g program call mid later after how → later.places ≡ call.places →
       ((program : Update) (header : Header) (start added : List (List ℕ)) (st : Setting) (o : CallOpening) → IsRunAt g program later.places st → (at : IsEndAt meaning later header start added st o how) →
-      HasCourseOf failures st o at.known.was.events at.known.was.cluster lists) →
+      HasTraceOf failures st o at.known.was.events at.known.was.cluster lists) →
       (owner : ℕ → ℕ) → IsPlacement g cut plan.run.machines owner → IsGoodStore (owned_shared g program owner failures) journal.header bodies → IsRunBy g cut program plan failures lists
   run_by how lists ends places gathered owner placement good =
       let start : HasCallBegun meaning past call journal mid resumed plan.run.budget (has owner placement).st = starts owner placement good in
@@ -90,7 +90,7 @@ module _ {D P : Type 0} (meaning : P → Update) (past : D → DiskPast) (g : Da
         opening = start.opening;
         events = at.known.was.events;
         cluster = at.known.was.cluster;
-        course = gathered program after.header bodies e.at.added (has owner placement).st start.opening there at;
+        trace = gathered program after.header bodies e.at.added (has owner placement).st start.opening there at;
       }
 
   -- ---- how it doesn't end
@@ -107,7 +107,7 @@ module _ {D P : Type 0} (meaning : P → Update) (past : D → DiskPast) (g : Da
 
     spends_less : (bound : ℕ) → BoundsSteps g program bound → (1 + length failures) * bound ≤ plan.run.budget → (left : Vertex) → IsCallEnded meaning past later after bodies (past journal.disk) st o (end.Spent left) → ⊥
     spends_less bound steps enough left e =
-        let makes = makes_call (IsEngineSaverOf meaning) e.paused st o e.known.was.events e.known.was.cluster e.known.was.now in
+        let makes = makes_call (IsAnyMachineOf meaning) e.paused st o e.known.was.events e.known.was.cluster e.known.was.now in
         let spent = e.gives.0.1 st o e.known.was.events e.known.was.cluster e.known.was.now makes.0 makes.1 in
         let many : length e.paused.failures ≡ length failures = ap (length {A = FailureAt}) (e.failures ∙ same) in
         let there : BoundsSteps st.graph st.program bound = subst₂ (λ (k : DataGraph) (p : Update). BoundsSteps k p bound) (sym (has owner placement).runs.placed.graph) (sym (has owner placement).runs.program_is) steps in
@@ -121,16 +121,16 @@ module _ {D P : Type 0} (meaning : P → Update) (past : D → DiskPast) (g : Da
     never_spent how ends bound steps enough left is =
         spends_less bound steps enough left (subst (IsCallEnded meaning past later after bodies (past journal.disk) st o) is (ended how ends))
 
-    needs_no_more : HasRoomForRun g plan (length failures) journal.count journal.length → journal.count ≡ length bodies → journal.length ≡ 65 + records_size bodies → later.course.now.stopped ≡ false → after.failed ≡ false → (stored long : ℕ) →
+    needs_no_more : HasRoomForRun g plan (length failures) journal.count journal.length → journal.count ≡ length bodies → journal.length ≡ 65 + records_size bodies → later.trace.now.stopped ≡ false → after.failed ≡ false → (stored long : ℕ) →
         IsCallEnded meaning past later after bodies (past journal.disk) st o (end.Full stored long) → ⊥
     needs_no_more room counts lasts running well stored long e =
-        let makes = makes_call (IsEngineSaverOf meaning) e.paused st o e.known.was.events e.known.was.cluster e.known.was.now in
+        let makes = makes_call (IsAnyMachineOf meaning) e.paused st o e.known.was.events e.known.was.cluster e.known.was.now in
         let half : half_of plan.window ≡ half_window st = ap half_of (sym ((has owner placement).runs.window ∙ placed.window)) in
         let budget : plan.run.budget ≡ o.first.left = sym (starts owner placement good).tickets in
         let many : length failures ≡ length e.paused.failures = sym (ap (length {A = FailureAt}) (e.failures ∙ same)) in
         let machines : plan.run.machines ≡ st.machines = sym ((has owner placement).runs.placed.machines ∙ placed.are.many) in
         let graph_is : g ≡ st.graph = sym (has owner placement).runs.placed.graph in
-        never_needs (IsEngineSaverOf meaning) e.paused after.header bodies (bodies ++ e.at.added) later.lost.items later.restarts.stored.items later.restarts.front.items later.order.items st o e.known (past after.disk).now.seen (e.at.stored well) makes.0 makes.1
+        never_needs (IsAnyMachineOf meaning) e.paused after.header bodies (bodies ++ e.at.added) later.lost.items later.restarts.stored.items later.restarts.front.items later.order.items st o e.known (past after.disk).now.seen (e.at.stored well) makes.0 makes.1
         (subst (λ (h : ℕ). 0 < h) half room.half)
         (subst (λ (n : ℕ). n + (o.first.left / half_window st + 1) ≤ 4096) counts
         (subst₂ (λ (b h : ℕ). journal.count + (b / h + 1) ≤ 4096) budget half room.few))
@@ -140,14 +140,14 @@ module _ {D P : Type 0} (meaning : P → Update) (past : D → DiskPast) (g : Da
         (subst (λ (k : DataGraph). journal.length + 16 * (plan.run.budget + length failures + 1) + (plan.run.budget / half_of plan.window + 1) * (17 + 8 * plan.run.machines + 12 * size k + 12 * length k.edges) ≤ 2 ^ 30) graph_is room.short))))
         (e.gives.3 e.known.was.events e.known.was.cluster e.known.was.now makes.0 makes.1 (e.now.code.stopped ∙ running))
 
-    pub never_full_of : (how : StoredEnd) → EndsCall meaning past g program call mid later after how → HasRoomForRun g plan (length failures) journal.count journal.length → journal.count ≡ length bodies → journal.length ≡ 65 + records_size bodies → later.course.now.stopped ≡ false →
+    pub never_full_of : (how : StoredEnd) → EndsCall meaning past g program call mid later after how → HasRoomForRun g plan (length failures) journal.count journal.length → journal.count ≡ length bodies → journal.length ≡ 65 + records_size bodies → later.trace.now.stopped ≡ false →
         (before now : ℕ) → EndsBy after before now how → (stored long : ℕ) → how ≡ end.Full stored long → ⊥
     never_full_of how ends room counts lasts running before now by stored long is =
         needs_no_more room counts lasts running (subst (EndsBy after before now) is by).0 stored long (subst (IsCallEnded meaning past later after bodies (past journal.disk) st o) is (ended how ends))
 
   -- ---- why it is not refused
 
-  module _ (budget_low : plan.run.budget ≤ 16777216) (machines_low : plan.run.machines < 65535) (failures_low : length failures ≤ 65536) (began : call.course.failures ≡ failures) (long : mid.length ≡ journal.length) (short : journal.length ≤ 2 ^ 30)
+  module _ (budget_low : plan.run.budget ≤ 16777216) (machines_low : plan.run.machines < 65535) (failures_low : length failures ≤ 65536) (began : call.trace.failures ≡ failures) (long : mid.length ≡ journal.length) (short : journal.length ≤ 2 ^ 30)
       (owner : ℕ → ℕ) (placement : IsPlacement g cut plan.run.machines owner) (good : IsGoodStore (owned_shared g program owner failures) journal.header bodies) where
     bounded : KeepsToBounds call mid (has owner placement).st (starts owner placement good).opening
     bounded =
@@ -181,14 +181,14 @@ module _ {D P : Type 0} (meaning : P → Update) (past : D → DiskPast) (g : Da
 
 -- ---- why there is no run
 
-pub not_begun : (told : Type 0) (failed : Bool) (old new : DiskPast) (before now : ℕ) (kept : Type 0) (why : JournalFault) → failed ≡ false → (told → new ≡ old) → IsWhyNotBegun failed before now why → IsWhyNoRun told old new before now kept why
+pub not_begun : (told : Type 0) (failed : Bool) (old new : DiskPast) (before now : ℕ) (kept : Type 0) (why : JournalFault) → failed ≡ false → (told → new ≡ old) → BeginErrorCause failed before now why → RunErrorCause told old new before now kept why
 not_begun told failed old new before now kept fault.DiskFault well still is = (is, still)
 not_begun told failed old new before now kept (fault.BadStore bad) well still is = λ t. inl (still t)
 not_begun told failed old new before now kept (fault.Full stored bytes) well still is = absurd is
 not_begun told failed old new before now kept fault.Failed well still is = absurd (true≢false (sym is ∙ well))
 not_begun told failed old new before now kept fault.NoMemory well still is = λ t. inl (still t)
 
-pub stopped : (told : Type 0) (old new : DiskPast) (before now : ℕ) (kept : Type 0) (why : JournalFault) → (told → kept) → IsWhyStopped why → IsWhyNoRun told old new before now kept why
+pub stopped : (told : Type 0) (old new : DiskPast) (before now : ℕ) (kept : Type 0) (why : JournalFault) → (told → kept) → StoppedRunErrorCause why → RunErrorCause told old new before now kept why
 stopped told old new before now kept fault.DiskFault keeps is = absurd is
 stopped told old new before now kept (fault.BadStore bad) keeps is = λ t. inr (keeps t)
 stopped told old new before now kept (fault.Full stored bytes) keeps is = absurd is
@@ -210,9 +210,9 @@ pub err_so : {X E : Type 0} (r : Result X E) (P : E → Type 0) (e : E) {Q : Typ
 err_so {X} {E} r P e holds is by = by (subst (λ (s : Result X E). IfErr s P) is holds)
 
 -- memory ran out, or the order is of another graph
-pub not_gathered : (told : Type 0) (old new : DiskPast) (before now : ℕ) (kept : Type 0) (bad : StoreFault) (other : Type 0) (why : JournalFault) → (told → kept) → (why ≡ fault.NoMemory) ⊎ ((why ≡ fault.BadStore bad) × other) → IsWhyNoRun told old new before now kept why
-not_gathered told old new before now kept bad other why keeps (inl none) = subst (IsWhyNoRun told old new before now kept) (sym none) (λ t. inr (keeps t))
-not_gathered told old new before now kept bad other why keeps (inr is) = subst (IsWhyNoRun told old new before now kept) (sym is.0) (λ t. inr (keeps t))
+pub not_gathered : (told : Type 0) (old new : DiskPast) (before now : ℕ) (kept : Type 0) (bad : StoreFault) (other : Type 0) (why : JournalFault) → (told → kept) → (why ≡ fault.NoMemory) ⊎ ((why ≡ fault.BadStore bad) × other) → RunErrorCause told old new before now kept why
+not_gathered told old new before now kept bad other why keeps (inl none) = subst (RunErrorCause told old new before now kept) (sym none) (λ t. inr (keeps t))
+not_gathered told old new before now kept bad other why keeps (inr is) = subst (RunErrorCause told old new before now kept) (sym is.0) (λ t. inr (keeps t))
 
 -- what ended the run by the counts of faults, told of an earlier count
 pub by_earlier : {D : Type 0} (journal : JournalState D) (old mid now : ℕ) (how : StoredEnd) → old ≤ mid → EndsBy journal mid now how → EndsBy journal old now how
@@ -229,14 +229,14 @@ by_earlier journal old mid now end.DiskFault less by = (by.0, λ small. above ol
 pub short_first : (long updates records : ℕ) → long + updates + records ≤ 2 ^ 30 → long ≤ 2 ^ 30
 short_first long updates records short = omega arith
 
-pub only_begun : (failed : Bool) (before now : ℕ) (why : JournalFault) → failed ≡ false → IsWhyNotBegun failed before now why → (Rose before now → ⊥) → ((bad : StoreFault) → why ≡ fault.BadStore bad → ⊥) → why ≡ fault.NoMemory
+pub only_begun : (failed : Bool) (before now : ℕ) (why : JournalFault) → failed ≡ false → BeginErrorCause failed before now why → (Rose before now → ⊥) → ((bad : StoreFault) → why ≡ fault.BadStore bad → ⊥) → why ≡ fault.NoMemory
 only_begun failed before now fault.DiskFault well is none good = absurd (none is)
 only_begun failed before now (fault.BadStore bad) well is none good = absurd (good bad refl)
 only_begun failed before now (fault.Full stored bytes) well is none good = absurd is
 only_begun failed before now fault.Failed well is none good = absurd (true≢false (sym is ∙ well))
 only_begun failed before now fault.NoMemory well is none good = refl
 
-pub only_stopped : (why : JournalFault) → IsWhyStopped why → ((bad : StoreFault) → why ≡ fault.BadStore bad → ⊥) → why ≡ fault.NoMemory
+pub only_stopped : (why : JournalFault) → StoppedRunErrorCause why → ((bad : StoreFault) → why ≡ fault.BadStore bad → ⊥) → why ≡ fault.NoMemory
 only_stopped fault.DiskFault is good = absurd is
 only_stopped (fault.BadStore bad) is good = absurd (good bad refl)
 only_stopped (fault.Full stored bytes) is good = absurd is

@@ -12,7 +12,7 @@ use Rattle.call_laws.specs.attempts.Stores.{last_order, snapshots_of}
 use Rattle.call_laws.proofs.call_budgets.Outside.{outside_few}
 use Rattle.call_laws.proofs.call_budgets.Stretches.{order_few}
 use Rattle.cluster_step.specs.trace.Calls.{MakesCall}
-use Rattle.cluster_step.specs.trace.Courses.{CallOpening, CourseView, Machine, Setting, first_cluster, first_setting}
+use Rattle.cluster_step.specs.trace.Traces.{CallOpening, TraceView, Machine, Setting, first_cluster, first_setting}
 use Rattle.cluster_laws.specs.cluster_model.Working.{half_window}
 use Rattle.cluster_laws.specs.cluster_runs.Recorded.{shared_of}
 use Rattle.graph_core.specs.DataGraph.{size}
@@ -29,7 +29,7 @@ use Rattle.store.specs.store_format.Stores.{unless_refused}
 use Rattle.store.specs.declared.store_format.faults.StoreFault.{StoreFault}
 use Rattle.store.specs.declared.store_format.header.Header.{Header}
 use Rattle.engine_runs.proofs.Bounds.{parted}
-use Rattle.engine_runs.specs.stores.Stores.{IsKnownCourse, fronts_in, recorded_in, stored_order}
+use Rattle.engine_runs.specs.stores.Stores.{IsKnownTrace, fronts_in, recorded_in, stored_order}
 use Rattle.recovery.specs.records.Keeping.{AreNextOrders}
 use Rattle.call_laws.proofs.whole_calls.Fronting.{next_once}
 use Rattle.whole_laws.specs.cluster_records.Few.{under_way}
@@ -156,8 +156,8 @@ lengths unheld ma n m = omega arith
 apart_is : (ma n m hm hn he : ℕ) → hm ≡ ma → hn ≡ n → he ≡ m → 9 + (8 + 16 * 0 + 8 * hm + 12 * hn + 12 * he) ≡ 17 + 8 * ma + 12 * n + 12 * m
 apart_is ma n m hm hn he ma_is n_is m_is = omega arith
 
-module _ {M : Type 0} (stands : Setting → ℕ → Machine → M → Type 0) (v : CourseView M) (header : Header) (start bodies : List (List ℕ)) (lost stored front order : List Entry) (st : Setting) (o : CallOpening)
-    (k : IsKnownCourse stands v header start bodies lost stored front order st o) (bytes : List ℕ) (bodies_are : stored_in header bytes ≡ bodies) (call : EngineCall) (makes : MakesCall st v.failures o k.was.events k.was.cluster call)
+module _ {M : Type 0} (represents : Setting → ℕ → Machine → M → Type 0) (v : TraceView M) (header : Header) (start bodies : List (List ℕ)) (lost stored front order : List Entry) (st : Setting) (o : CallOpening)
+    (k : IsKnownTrace represents v header start bodies lost stored front order st o) (bytes : List ℕ) (bodies_are : stored_in header bytes ≡ bodies) (call : EngineCall) (makes : MakesCall st v.failures o k.was.events k.was.cluster call)
     (some : 0 < half_window st) (few : length start + (o.first.left / half_window st + 1) ≤ 4096)
     (short : 65 + records_size start + 16 * (o.first.left + length v.failures + 1) + (o.first.left / half_window st + 1) * (17 + 8 * st.machines + 12 * size st.graph + 12 * length st.graph.edges) ≤ 1073741824) where
   abbrev added : List (List ℕ)

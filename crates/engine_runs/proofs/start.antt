@@ -1,4 +1,4 @@
-pub mod CourseLemmas
+pub mod TraceLemmas
 pub mod StartLemmas
 pub mod TicketLemmas
 pub mod TicketSteps

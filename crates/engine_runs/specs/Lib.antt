@@ -1,6 +1,6 @@
 pub mod Calls
 pub mod Runs
-pub mod saver_courses
+pub mod attempt_machines
 pub mod placement_is_unique
 pub mod answers
 pub mod start

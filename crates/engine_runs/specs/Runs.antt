@@ -14,10 +14,10 @@ use Rattle.std.specs.Prelude.{Bool, Err, List, Ok, Result, length, suc, true, �
 use Rattle.graph_atoms.specs.declared.atom_gather.cuts.Cut.{Cut}
 use Rattle.gl_base.specs.declared.entries.Entry.{Entry}
 use Rattle.gl_base.specs.declared.jobs.FailureAt.{FailureAt}
-use Rattle.call_laws.specs.call_answers.Courses.{ListsOfCourse}
+use Rattle.call_laws.specs.call_answers.Traces.{ListsOfTrace}
 use Rattle.cluster_laws.specs.cluster_model.Events.{Event}
 use Rattle.graph_core.specs.DataGraph.{DataGraph, size}
-use Rattle.placed_machines.specs.declared.savers.Places.{Places}
+use Rattle.placed_machines.specs.declared.placing.Places.{Places}
 use Rattle.store.specs.snap_journal.Disks.{DiskPast, Rose}
 use Rattle.store.specs.declared.snap_journal.faults.JournalFault.{JournalFault}
 use Rattle.store.specs.declared.snap_journal.faults.JournalFault.TheVariants as fault
@@ -25,10 +25,10 @@ use Rattle.store.specs.declared.store_format.faults.StoreFault.TheVariants.{BadB
 use Rattle.engine_runs.specs.declared.answers.runs.StoredEnd.{StoredEnd}
 use Rattle.engine_runs.specs.declared.answers.runs.StoredEnd.TheVariants as end
 use Rattle.engine_runs.specs.declared.answers.runs.StoredRun.{StoredRun}
-use Rattle.engine_runs.specs.Calls.{AreSnapLines, CallOpening, Cluster, CourseView, EngineSaver, Header, IsCallAt, IsCourseNow, IsEngineSaverOf, IsKnownAt, IsRunAt, JournalState, PauseGives, Setting, orders_behind, shared_of, snapshots_in}
+use Rattle.engine_runs.specs.Calls.{AreSnapLines, CallOpening, Cluster, TraceView, AnyMachine, Header, IsCallAt, IsTraceNow, IsAnyMachineOf, IsKnownAt, IsRunAt, JournalState, PauseGives, Setting, orders_behind, shared_of, snapshots_in}
 use Rattle.engine_runs.specs.declared.calls.StoredCall.{StoredCall}
 use Rattle.update_api.specs.Updates.{Update}
-use Rattle.call_laws.specs.whole_calls.Opened.{IsCourseOfCall}
+use Rattle.call_laws.specs.whole_calls.Opened.{IsTraceOfCall}
 
 -- In this setting the call has begun, resumed or not as this says, with so many tickets, from the store that the journal had.
 pub record HasCallBegun {D P : Type 0} (meaning : P → Update) (past : D → DiskPast) (call : StoredCall P) (journal after : JournalState D) (resumed : Bool) (budget : ℕ) (st : Setting) : Type 0 where
@@ -39,11 +39,11 @@ pub record HasCallBegun {D P : Type 0} (meaning : P → Update) (past : D → Di
 
 -- The store began with these snapshots and got others, of which the call has a line each; and the run ends so, where the course paused.
 pub record IsEndAt {P : Type 0} (meaning : P → Update) (call : StoredCall P) (header : Header) (start added : List (List ℕ)) (st : Setting) (o : CallOpening) (how : StoredEnd) : Type 0 where
-  pub lines : AreSnapLines (shared_of st call.course.failures) (suc (length start)) (orders_behind (stored_order start) added) call.snapshots.items
-  pub paused : CourseView (EngineSaver P)
+  pub lines : AreSnapLines (shared_of st call.trace.failures) (suc (length start)) (orders_behind (stored_order start) added) call.snapshots.items
+  pub paused : TraceView (AnyMachine P)
   pub known : IsKnownAt meaning paused call header start (start ++ added) st o
-  pub failures : paused.failures ≡ call.course.failures
-  pub now : IsCourseNow (IsEngineSaverOf meaning) call.course st o known.was.events known.was.cluster
+  pub failures : paused.failures ≡ call.trace.failures
+  pub now : IsTraceNow (IsAnyMachineOf meaning) call.trace st o known.was.events known.was.cluster
   pub gives : PauseGives call.saves_end meaning paused (start ++ added) st o known.was.cluster how
 
 -- the run is one with a store that began with these snapshots, and got these others, and its end is saved or not
@@ -52,9 +52,9 @@ IsRunSo saves st failures o start added run =
     IsStoredRun saves (shared_of st failures) st.machines st.window o.first.left (length start) (stored_order start) o.resumed (orders_behind (stored_order start) added) run
 
 -- these events are a course of the call, which led to this cluster, and these are its lists
-abbrev pub HasCourseOf : List FailureAt → Setting → CallOpening → List Event → Cluster → RunLists → Type 0
-HasCourseOf failures st o events c lists =
-    IsCourseOfCall st failures o.kept o.resumed o.base o.first events c × ListsOfCourse st failures o.base o.first events c lists
+abbrev pub HasTraceOf : List FailureAt → Setting → CallOpening → List Event → Cluster → RunLists → Type 0
+HasTraceOf failures st o events c lists =
+    IsTraceOfCall st failures o.kept o.resumed o.base o.first events c × ListsOfTrace st failures o.base o.first events c lists
 
 -- The machines that ran are those that the plan asks for: the graph was placed for it, so that engine, pipeline and window of their cluster are the plan's,
 -- and these are the lists of a course of that cluster.
@@ -66,7 +66,7 @@ pub record IsRunBy (g : DataGraph) (cut : Cut) (program : Update) (plan : Stored
   pub opening : CallOpening
   pub events : List Event
   pub cluster : Cluster
-  pub course : HasCourseOf failures setting opening events cluster lists
+  pub trace : HasTraceOf failures setting opening events cluster lists
 
 -- what a run shares on this graph, with this owner of each vertex
 abbrev pub owned_shared : DataGraph → Update → (ℕ → ℕ) → List FailureAt → Shared
@@ -80,20 +80,20 @@ KeepsByOwner past g program cut machines failures journal after =
 
 -- Why no run was made. There was a fault of the disk before the run began, and the disk is as it was; or memory ran out, or the store or a record
 -- for it was not as it should be, and the disk is as it was, or `kept` holds.
-abbrev pub IsWhyNoRun : Type 0 → DiskPast → DiskPast → ℕ → ℕ → Type 0 → JournalFault → Type 0
-IsWhyNoRun told old new before now kept fault.DiskFault = Rose before now × (told → new ≡ old)
-IsWhyNoRun told old new before now kept (fault.BadStore why) = told → (new ≡ old) ⊎ kept
-IsWhyNoRun told old new before now kept (fault.Full stored bytes) = ⊥
-IsWhyNoRun told old new before now kept fault.Failed = ⊥
-IsWhyNoRun told old new before now kept fault.NoMemory = told → (new ≡ old) ⊎ kept
+abbrev pub RunErrorCause : Type 0 → DiskPast → DiskPast → ℕ → ℕ → Type 0 → JournalFault → Type 0
+RunErrorCause told old new before now kept fault.DiskFault = Rose before now × (told → new ≡ old)
+RunErrorCause told old new before now kept (fault.BadStore why) = told → (new ≡ old) ⊎ kept
+RunErrorCause told old new before now kept (fault.Full stored bytes) = ⊥
+RunErrorCause told old new before now kept fault.Failed = ⊥
+RunErrorCause told old new before now kept fault.NoMemory = told → (new ≡ old) ⊎ kept
 
 -- why a call did not begin; `failed` says whether an earlier call had found a fault of the disk
-abbrev pub IsWhyNotBegun : Bool → ℕ → ℕ → JournalFault → Type 0
-IsWhyNotBegun failed before now fault.DiskFault = Rose before now
-IsWhyNotBegun failed before now (fault.BadStore why) = ⊤
-IsWhyNotBegun failed before now (fault.Full stored bytes) = ⊥
-IsWhyNotBegun failed before now fault.Failed = failed ≡ true
-IsWhyNotBegun failed before now fault.NoMemory = ⊤
+abbrev pub BeginErrorCause : Bool → ℕ → ℕ → JournalFault → Type 0
+BeginErrorCause failed before now fault.DiskFault = Rose before now
+BeginErrorCause failed before now (fault.BadStore why) = ⊤
+BeginErrorCause failed before now (fault.Full stored bytes) = ⊥
+BeginErrorCause failed before now fault.Failed = failed ≡ true
+BeginErrorCause failed before now fault.NoMemory = ⊤
 
 -- why it did not, by why it did not start: a store of so many bytes that is too long is refused
 abbrev pub refused_by : JournalFault → ℕ → JournalFault

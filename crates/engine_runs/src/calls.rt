@@ -1,9 +1,9 @@
 //! A call that goes on.
 use crate::answers::SnapLine;
-use cluster_step::trace::Course;
+use cluster_step::trace::Trace;
 use gl_base::Entry;
 use placed_machines::Places;
-use placed_machines::engine_savers::EngineSaver;
+use placed_machines::any_machine::AnyMachine;
 use recovery::restarts::Restarts;
 use update_api::Program;
 
@@ -12,7 +12,7 @@ use update_api::Program;
 /// snapshots that were acknowledged, and whether one is taken of the end.
 #[derive(Drop)]
 pub(crate) struct StoredCall<P: Program> {
-    pub(crate) course: Course<EngineSaver<P>>,
+    pub(crate) trace: Trace<AnyMachine<P>>,
     pub(crate) places: Places,
     pub(crate) restarts: Restarts,
     pub(crate) order: Vec<Entry>,

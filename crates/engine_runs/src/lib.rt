@@ -3,13 +3,13 @@
 
 pub mod answers;
 pub mod append;
+pub mod attempt_machines;
 mod calls;
 pub mod finish;
 mod pauses;
 pub mod placement_is_unique;
 pub mod rollback;
 mod running;
-pub mod saver_courses;
 pub mod start;
 mod steps;
 pub mod stores;

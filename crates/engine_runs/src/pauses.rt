@@ -3,7 +3,7 @@ ghost use Rattle.std.specs.Prelude.{List, None, Some, false, ◌≡◌, ◌≢�
 ghost use Rattle.gl_base.specs.declared.numbers.MachineNo.{MachineNo};
 ghost use Rattle.store.specs.declared.snap_journal.faults.JournalFault.TheVariants as fault;
 ghost use Rattle.engine_runs.specs.declared.answers.runs.StoredEnd.TheVariants as ending;
-ghost use Rattle.engine_runs.specs.Calls.{Begins, CallOpening, CanCallGoOn, DiskPast, EndsBy, EndsCall, IsCallAt, IsCallEnded, IsEngineSaverOf, IsNotRefused, IsSameCall, IsWhyStopped, KeepsCall, PausesSo, Setting, end_of, end_without};
+ghost use Rattle.engine_runs.specs.Calls.{Begins, CallOpening, CanCallGoOn, DiskPast, EndsBy, EndsCall, IsCallAt, IsCallEnded, IsAnyMachineOf, IsNotRefused, IsSameCall, StoppedRunErrorCause, KeepsCall, PauseMeaning, Setting, end_of, end_without};
 ghost use Rattle.cluster_step.specs.declared.drive.pauses.Pause.TheVariants as pause;
 
 use crate::answers::StoredEnd;
@@ -28,11 +28,11 @@ pub(crate) fn go_back_from<D: Disk, P: Program>(
 ) -> Result<Option<StoredEnd>, JournalFault>
     requires can { CanCallGoOn graph.now call.old journal.old }
     requires reached { (m : MachineNo) ×
-        PausesSo (IsEngineSaverOf P.meaning) call.old.course (pause.Reached m) }
-    ensures keeps { IsTrue D.told →
+        PauseMeaning (IsAnyMachineOf P.meaning) call.old.trace (pause.Reached m) }
+    ensures keeps { IsTrue D.observable →
         KeepsCall P.meaning D.past graph.now (P.meaning program) call.old
         journal.old call.new journal.new }
-    ensures ends { IsTrue D.told →
+    ensures ends { IsTrue D.observable →
         IfOk result (λ end. IfSome end
         (EndsCall P.meaning D.past graph.now (P.meaning program) call.old journal.old
         call.new journal.new)) }
@@ -41,8 +41,8 @@ pub(crate) fn go_back_from<D: Disk, P: Program>(
     ensures on { IfOk result (λ end. end ≡ None → CanCallGoOn graph.now call.new journal.new) }
     ensures short { IfOk result (λ end. end ≡ None → journal.old.length ≤ 2 ^ 30 →
         journal.new.length ≤ 2 ^ 30) }
-    ensures refused { IfErr result IsWhyStopped }
-    ensures good { IsTrue D.told → (st : Setting) →
+    ensures refused { IfErr result StoppedRunErrorCause }
+    ensures good { IsTrue D.observable → (st : Setting) →
         IsNotRefused P.meaning D.past call.old journal.old st result }
     ensures call { IsSameCall call.old call.new }
     ensures header { journal.new.header ≡ journal.old.header }
@@ -53,7 +53,7 @@ pub(crate) fn go_back_from<D: Disk, P: Program>(
     let length = journal.length();
     let back = go_back(
         alloc,
-        &mut call.course,
+        &mut call.trace,
         journal,
         graph,
         program,
@@ -75,7 +75,7 @@ pub(crate) fn go_back_from<D: Disk, P: Program>(
 fn end_without(why: JournalFault, length: u64) -> Result<Option<StoredEnd>, JournalFault>
     ensures is { result ≡ end_without why length }
     ensures end { IfOk result (λ end. (end ≡ Some ending.DiskFault) × (why ≡ fault.DiskFault)) }
-    ensures refused { why ≢ fault.Failed → IfErr result IsWhyStopped }
+    ensures refused { why ≢ fault.Failed → IfErr result StoppedRunErrorCause }
 {
     match why {
         JournalFault::DiskFault => Ok(Some(StoredEnd::DiskFault)),
@@ -92,14 +92,14 @@ pub(crate) fn save_due<D: Disk, P: Program>(
     journal: &mut Journal<D>,
 ) -> Result<Option<StoredEnd>, JournalFault>
     requires well { journal.old.failed ≡ false }
-    requires running { call.old.course.now.stopped ≡ false }
+    requires running { call.old.trace.now.stopped ≡ false }
     requires restarts { Begins call.old.restarts.stored.items call.old.restarts.front.items }
-    requires due { (k : ℕ) × PausesSo (IsEngineSaverOf P.meaning) call.old.course (pause.Record k) }
-    ensures keeps { IsTrue D.told →
+    requires due { (k : ℕ) × PauseMeaning (IsAnyMachineOf P.meaning) call.old.trace (pause.Record k) }
+    ensures keeps { IsTrue D.observable →
         (start : List (List ℕ)) (first : DiskPast) (st : Setting) (o : CallOpening) →
         IsCallAt P.meaning D.past call.old journal.old start first st o →
         IsCallAt P.meaning D.past call.new journal.new start first st o }
-    ensures ends { IsTrue D.told →
+    ensures ends { IsTrue D.observable →
         IfOk result (λ end. IfSome end (λ how.
         (start : List (List ℕ)) (first : DiskPast) (st : Setting) (o : CallOpening) →
         IsCallAt P.meaning D.past call.old journal.old start first st o →
@@ -109,8 +109,8 @@ pub(crate) fn save_due<D: Disk, P: Program>(
     ensures well { IfOk result (λ end. end ≡ None → journal.new.failed ≡ false) }
     ensures restarts { Begins call.new.restarts.stored.items call.new.restarts.front.items }
     ensures short { IfOk result (λ end. end ≡ None → journal.new.length ≤ 2 ^ 30) }
-    ensures refused { IfErr result IsWhyStopped }
-    ensures good { IsTrue D.told → (st : Setting) →
+    ensures refused { IfErr result StoppedRunErrorCause }
+    ensures good { IsTrue D.observable → (st : Setting) →
         IsNotRefused P.meaning D.past call.old journal.old st result }
     ensures call { IsSameCall call.old call.new }
     ensures header { journal.new.header ≡ journal.old.header }
@@ -118,7 +118,7 @@ pub(crate) fn save_due<D: Disk, P: Program>(
     ensures later { D.faults journal.old.disk ≤ D.faults journal.new.disk }
 {
     call.snapshots.reserve(1)?;
-    let added = append_due(alloc, &mut call.course, journal, &mut call.restarts);
+    let added = append_due(alloc, &mut call.trace, journal, &mut call.restarts);
     // The reader tells how many snapshots the store has, and that whatever a crash now leaves has
     // them.
     let _stored = journal.count();

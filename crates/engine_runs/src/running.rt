@@ -9,7 +9,7 @@ ghost use Rattle.store.specs.declared.store_format.faults.StoreFault.{StoreFault
 ghost use Rattle.store.specs.declared.store_format.faults.StoreFault.TheVariants.{BadByte};
 ghost use Rattle.engine_runs.specs.Calls.{ArePlacesOf, CallOpening, CanCallGoOn, EndsBy, Header, IsHeaderOf, IsRunAt, Setting, shared_of, snapshots_in};
 ghost use Rattle.engine_runs.specs.declared.answers.runs.StoredEnd.TheVariants as ending;
-ghost use Rattle.engine_runs.specs.Runs.{AreJobFailures, ArePlacedFor, BoundsSteps, CanBeCut, HasCallBegun, HasCourseOf, HasRoomForRun, IsEndAt, IsFinishedOrNoMemory, IsEntryOf, IsGoodStore, IsInRange, IsRunBy, IsRunSo, IsPlacement, IsStoredRun, IsWhyNoRun, IsWhyNotBegun, KeepsByOwner, KeepsGood, lists_of, owned_shared, refused_by, run_shared, stored_order};
+ghost use Rattle.engine_runs.specs.Runs.{AreJobFailures, ArePlacedFor, BoundsSteps, CanBeCut, HasCallBegun, HasTraceOf, HasRoomForRun, IsEndAt, IsFinishedOrNoMemory, IsEntryOf, IsGoodStore, IsInRange, IsRunBy, IsRunSo, IsPlacement, IsStoredRun, RunErrorCause, BeginErrorCause, KeepsByOwner, KeepsGood, lists_of, owned_shared, refused_by, run_shared, stored_order};
 ghost use Rattle.update_api.specs.Updates.{Update};
 
 use crate::answers::{SnapLine, StoredEnd, StoredPlan, StoredRun};
@@ -22,7 +22,7 @@ use gl_base::FailureAt;
 use gl_outside::Disk;
 use graph_atoms::atom_gather::Cut;
 use graph_core::Graph;
-use placed_machines::engine_savers::EngineSaver;
+use placed_machines::any_machine::AnyMachine;
 use std::alloc::Global;
 use std::sync::Wait;
 use store::snap_journal::{Journal, JournalFault};
@@ -60,7 +60,7 @@ pub fn run_stored<R: Wait, D: Disk, P: Program>(
 
     // From a store that is good by the owners that the placement gives: what the run is, and what
     // crashes leave.
-    ensures run { IsTrue D.told →
+    ensures run { IsTrue D.observable →
         IfOk result (λ run. (owner : ℕ → ℕ) →
         IsPlacement graph.now cut.now plan.run.machines owner →
         IsGoodStore (owned_shared graph.now (P.meaning program) owner failures.now)
@@ -75,7 +75,7 @@ pub fn run_stored<R: Wait, D: Disk, P: Program>(
 
     // From such a store it is a run of machines that the plan asks for: of its kind of engine, with
     // its pipeline.
-    ensures engine { IsTrue D.told →
+    ensures engine { IsTrue D.observable →
         IfOk result (λ run. (owner : ℕ → ℕ) →
         IsPlacement graph.now cut.now plan.run.machines owner →
         IsGoodStore (owned_shared graph.now (P.meaning program) owner failures.now)
@@ -84,7 +84,7 @@ pub fn run_stored<R: Wait, D: Disk, P: Program>(
 
     // From such a store, that is as long as one may grow or shorter, no run is refused for the
     // store or a record: memory ran out, or the disk failed before the run began.
-    ensures good { IsTrue D.told → (owner : ℕ → ℕ) →
+    ensures good { IsTrue D.observable → (owner : ℕ → ℕ) →
         IsPlacement graph.now cut.now plan.run.machines owner →
         IsGoodStore (owned_shared graph.now (P.meaning program) owner failures.now)
         journal.old.header (snapshots_in D.past journal.old) → journal.old.length ≤ 2 ^ 30 →
@@ -92,7 +92,7 @@ pub fn run_stored<R: Wait, D: Disk, P: Program>(
 
     // And its budget is not spent, where each attempt has as many tickets as it may need; and the
     // store is not full, where it has room for the run.
-    ensures enough { IsTrue D.told →
+    ensures enough { IsTrue D.observable →
         IfOk result (λ run. (owner : ℕ → ℕ) →
         IsPlacement graph.now cut.now plan.run.machines owner →
         IsGoodStore (owned_shared graph.now (P.meaning program) owner failures.now)
@@ -100,7 +100,7 @@ pub fn run_stored<R: Wait, D: Disk, P: Program>(
         (bound : ℕ) → BoundsSteps graph.now (P.meaning program) bound →
         (1 + length failures.now) * bound ≤ plan.run.budget → (left : Vertex) →
         run.end ≡ ending.Spent left → ⊥) }
-    ensures roomy { IsTrue D.told →
+    ensures roomy { IsTrue D.observable →
         IfOk result (λ run. (owner : ℕ → ℕ) →
         IsPlacement graph.now cut.now plan.run.machines owner →
         IsGoodStore (owned_shared graph.now (P.meaning program) owner failures.now)
@@ -109,7 +109,7 @@ pub fn run_stored<R: Wait, D: Disk, P: Program>(
         (stored long : ℕ) → run.end ≡ ending.Full stored long → ⊥) }
 
     // So it finishes, or memory runs out, where the disk does not fail.
-    ensures complete { IsTrue D.told → (owner : ℕ → ℕ) →
+    ensures complete { IsTrue D.observable → (owner : ℕ → ℕ) →
         IsPlacement graph.now cut.now plan.run.machines owner →
         IsGoodStore (owned_shared graph.now (P.meaning program) owner failures.now)
         journal.old.header (snapshots_in D.past journal.old) →
@@ -128,7 +128,7 @@ pub fn run_stored<R: Wait, D: Disk, P: Program>(
     ensures numbers { IfOk result (λ run. length run.numbers.items ≡ size graph.now) }
     ensures entries { IfOk result (λ run. All (IsEntryOf graph.now) run.order.items) }
     ensures refused { IfErr result
-        (IsWhyNoRun (IsTrue D.told) (D.past journal.old.disk) (D.past journal.new.disk)
+        (RunErrorCause (IsTrue D.observable) (D.past journal.old.disk) (D.past journal.new.disk)
         (D.faults journal.old.disk) (D.faults journal.new.disk)
         (KeepsByOwner D.past graph.now (P.meaning program) cut.now plan.run.machines failures.now
         journal.old journal.new)) }
@@ -172,7 +172,7 @@ fn begin<D: Disk, P: Program>(
     requires machines { journal.old.header.machines ≡ plan.run.machines }
     requires fresh { resumed ≡ false → journal.old.count ≡ 0 }
     ensures can { IfOk result (λ call. CanCallGoOn graph.now call journal.new) }
-    ensures begun { IsTrue D.told →
+    ensures begun { IsTrue D.observable →
         IfOk result (λ call. (st : Setting) → IsRunAt graph.now (P.meaning program) call.places st →
         IsGoodStore (shared_of st failures.now) journal.old.header
         (snapshots_in D.past journal.old) →
@@ -182,14 +182,14 @@ fn begin<D: Disk, P: Program>(
         (shared_of st failures.now ≡ run_shared graph.now (P.meaning program)
         call.places failures.now)) }
     ensures places { IfOk result (λ call. ArePlacedFor graph.now cut.now plan call.places) }
-    ensures failures { IfOk result (λ call. call.course.failures ≡ failures.now) }
+    ensures failures { IfOk result (λ call. call.trace.failures ≡ failures.now) }
     ensures saves { IfOk result (λ call. call.saves_end ≡ plan.saves_end) }
     ensures refused { IfErr result
-        (IsWhyNotBegun journal.old.failed (D.faults journal.old.disk) (D.faults journal.new.disk)) }
-    ensures good { IsTrue D.told → journal.old.length ≤ 2 ^ 30 → (why : StoreFault) →
+        (BeginErrorCause journal.old.failed (D.faults journal.old.disk) (D.faults journal.new.disk)) }
+    ensures good { IsTrue D.observable → journal.old.length ≤ 2 ^ 30 → (why : StoreFault) →
         IsErrOf result (fault.BadStore why) → ⊥ }
     ensures long { journal.new.length ≡ journal.old.length }
-    ensures past { IsTrue D.told → D.past journal.new.disk ≡ D.past journal.old.disk }
+    ensures past { IsTrue D.observable → D.past journal.new.disk ≡ D.past journal.old.disk }
     ensures header { journal.new.header ≡ journal.old.header }
     ensures same { D.same journal.old.disk journal.new.disk }
     ensures later { D.faults journal.old.disk ≤ D.faults journal.new.disk }
@@ -208,7 +208,7 @@ pub(crate) fn call_of<P: Program>(
     started: Started<P>,
     saves_end: bool,
 ) -> StoredCall<P>
-    ensures course { result.course ≡ started.course }
+    ensures trace { result.trace ≡ started.trace }
     ensures places { result.places ≡ started.places }
     ensures restarts { result.restarts ≡ started.restarts }
     ensures order { result.order ≡ started.order }
@@ -217,13 +217,13 @@ pub(crate) fn call_of<P: Program>(
     ensures saves { result.saves_end ≡ saves_end }
 {
     let Started {
-        course,
+        trace,
         places,
         order,
         restarts,
     } = started;
     StoredCall {
-        course,
+        trace,
         places,
         restarts,
         order,
@@ -253,20 +253,20 @@ pub(crate) fn gathered<P: Program>(
     end: StoredEnd,
     long: u64,
 ) -> Result<StoredRun, JournalFault>
-    requires places { ArePlacesOf graph.now (length call.course.now.machines.items) call.places }
-    requires failures { call.course.failures ≡ failures.now }
+    requires places { ArePlacesOf graph.now (length call.trace.now.machines.items) call.places }
+    requires failures { call.trace.failures ≡ failures.now }
     requires few { length failures.now ≤ 65536 }
-    requires running { call.course.now.stopped ≡ false }
+    requires running { call.trace.now.stopped ≡ false }
     ensures run { IfOk result (λ run.
         (program : Update) (header : Header) (start added : List (List ℕ)) (st : Setting)
         (o : CallOpening) → IsRunAt graph.now program call.places st →
         IsEndAt P.meaning call header start added st o end →
         IsRunSo call.saves_end st failures.now o start added run) }
-    ensures course { IfOk result (λ run.
+    ensures trace { IfOk result (λ run.
         (program : Update) (header : Header) (start added : List (List ℕ)) (st : Setting)
         (o : CallOpening) → IsRunAt graph.now program call.places st →
         (at : IsEndAt P.meaning call header start added st o end) →
-        HasCourseOf failures.now st o at.known.was.events at.known.was.cluster (lists_of run)) }
+        HasTraceOf failures.now st o at.known.was.events at.known.was.cluster (lists_of run)) }
     ensures end { IfOk result (λ run. run.end ≡ end) }
     ensures numbers { IfOk result (λ run. length run.numbers.items ≡ size graph.now) }
     ensures entries { IfOk result (λ run. All (IsEntryOf graph.now) run.order.items) }
@@ -277,9 +277,9 @@ pub(crate) fn gathered<P: Program>(
         IsRunAt graph.now program call.places st →
         IsEndAt P.meaning call header start added st o end → ⊥))) }
 {
-    calls_end_so::<EngineSaver<P>>();
+    calls_end_so::<AnyMachine<P>>();
     let StoredCall {
-        course,
+        trace,
         places,
         restarts,
         order,
@@ -288,19 +288,19 @@ pub(crate) fn gathered<P: Program>(
         ..
     } = call;
     drop(restarts);
-    match gather_call(alloc, graph, &course, &places, failures, order, lost) {
+    match gather_call(alloc, graph, &trace, &places, failures, order, lost) {
         Ok(lists) => {
-            drop(course);
+            drop(trace);
             drop(places);
             Ok(run_of(lists, snapshots, end))
         }
         Err(GatherFault::OtherGraph) => {
-            drop(course);
+            drop(trace);
             drop(places);
             Err(JournalFault::BadStore(StoreFault::BadByte(long)))
         }
         Err(GatherFault::NoMemory) => {
-            drop(course);
+            drop(trace);
             drop(places);
             Err(JournalFault::NoMemory)
         }

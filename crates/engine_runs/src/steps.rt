@@ -1,6 +1,6 @@
 //! A call goes on, pause by pause, until it ends.
 ghost use Rattle.std.specs.Prelude.{List, None, false, ◌≡◌, ◌≤◌, ◌^◌, ℕ, IfErr, IfOk, IfSome, IsTrue};
-ghost use Rattle.engine_runs.specs.Calls.{CallOpening, CanCallGoOn, EndsBy, EndsCall, Header, IsEngineSaverOf, IsKnownAt, IsNotRefused, IsRunAt, IsSameCall, IsWhyStopped, KeepsCall, PausesSo, Setting};
+ghost use Rattle.engine_runs.specs.Calls.{CallOpening, CanCallGoOn, EndsBy, EndsCall, Header, IsAnyMachineOf, IsKnownAt, IsNotRefused, IsRunAt, IsSameCall, StoppedRunErrorCause, KeepsCall, PauseMeaning, Setting};
 
 use crate::answers::StoredEnd;
 use crate::calls::StoredCall;
@@ -25,16 +25,16 @@ pub(crate) fn play_to_end<R: Wait, D: Disk, P: Program>(
     journal: &mut Journal<D>,
 ) -> Result<StoredEnd, JournalFault>
     requires can { CanCallGoOn graph.now call.old journal.old }
-    ensures keeps { IsTrue D.told →
+    ensures keeps { IsTrue D.observable →
         KeepsCall P.meaning D.past graph.now (P.meaning program) call.old
         journal.old call.new journal.new }
-    ensures ends { IsTrue D.told →
+    ensures ends { IsTrue D.observable →
         IfOk result (EndsCall P.meaning D.past graph.now (P.meaning program) call.old
         journal.old call.new journal.new) }
     ensures by { IfOk result
         (EndsBy journal.new (D.faults journal.old.disk) (D.faults journal.new.disk)) }
-    ensures refused { IfErr result IsWhyStopped }
-    ensures good { IsTrue D.told → (st : Setting) →
+    ensures refused { IfErr result StoppedRunErrorCause }
+    ensures good { IsTrue D.observable → (st : Setting) →
         IsRunAt graph.now (P.meaning program) call.old.places st →
         IsNotRefused P.meaning D.past call.old journal.old st result }
     ensures call { IsSameCall call.old call.new }
@@ -63,10 +63,10 @@ fn step<R: Wait, D: Disk, P: Program>(
     journal: &mut Journal<D>,
 ) -> Result<Option<StoredEnd>, JournalFault>
     requires can { CanCallGoOn graph.now call.old journal.old }
-    ensures keeps { IsTrue D.told →
+    ensures keeps { IsTrue D.observable →
         KeepsCall P.meaning D.past graph.now (P.meaning program) call.old
         journal.old call.new journal.new }
-    ensures ends { IsTrue D.told →
+    ensures ends { IsTrue D.observable →
         IfOk result (λ end. IfSome end
         (EndsCall P.meaning D.past graph.now (P.meaning program) call.old journal.old
         call.new journal.new)) }
@@ -75,8 +75,8 @@ fn step<R: Wait, D: Disk, P: Program>(
     ensures on { IfOk result (λ end. end ≡ None → CanCallGoOn graph.now call.new journal.new) }
     ensures short { IfOk result (λ end. end ≡ None → journal.old.length ≤ 2 ^ 30 →
         journal.new.length ≤ 2 ^ 30) }
-    ensures refused { IfErr result IsWhyStopped }
-    ensures good { IsTrue D.told → (st : Setting) →
+    ensures refused { IfErr result StoppedRunErrorCause }
+    ensures good { IsTrue D.observable → (st : Setting) →
         IsNotRefused P.meaning D.past call.old journal.old st result }
     ensures call { IsSameCall call.old call.new }
     ensures header { journal.new.header ≡ journal.old.header }
@@ -92,7 +92,7 @@ fn step<R: Wait, D: Disk, P: Program>(
             stored: journal.count(),
             length: journal.length(),
         })),
-        Pause::Spent => Ok(Some(StoredEnd::Spent(task_left(&call.course)))),
+        Pause::Spent => Ok(Some(StoredEnd::Spent(task_left(&call.trace)))),
     }
 }
 
@@ -100,16 +100,16 @@ fn step<R: Wait, D: Disk, P: Program>(
 fn go_on<R: Wait, P: Program>(rt: &R, call: &mut StoredCall<P>) -> Result<Pause, NoMemory>
     ensures known { (header : Header) (start bodies : List (List ℕ))
         (st : Setting) (o : CallOpening) →
-        IsKnownAt P.meaning call.old.course call.old header start bodies st o →
-        IsKnownAt P.meaning call.new.course call.new header start bodies st o }
-    ensures pause { IfOk result (PausesSo (IsEngineSaverOf P.meaning) call.new.course) }
+        IsKnownAt P.meaning call.old.trace call.old header start bodies st o →
+        IsKnownAt P.meaning call.new.trace call.new header start bodies st o }
+    ensures pause { IfOk result (PauseMeaning (IsAnyMachineOf P.meaning) call.new.trace) }
     ensures unsaved { IfOk result (λ pause. pause ≡ Pause.Quiet → call.old.saves_end ≡ false) }
-    ensures same { call.new ≡ record call.old { course = call.new.course } }
+    ensures same { call.new ≡ record call.old { trace = call.new.trace } }
     ensures attempt { IsSameCall call.old call.new }
 {
-    call.course.remember();
-    let pause = drive(rt, &mut call.course, call.saves_end);
+    call.trace.remember();
+    let pause = drive(rt, &mut call.trace, call.saves_end);
     // The reader tells that no snapshot was acknowledged since, and that no attempt began.
-    let _machines = call.course.machines();
+    let _machines = call.trace.machines();
     pause
 }

@@ -2,4 +2,4 @@
 
 mod laws;
 
-pub use laws::{stores_go_with_courses, stores_stay_known};
+pub use laws::{stores_go_with_traces, stores_stay_known};

@@ -15,7 +15,7 @@ pub trait Disk {
     ghost faults: { Self → ℕ };
 
     /// Whether it is told what it holds: over memory it is, and over a real file it is not.
-    ghost told: { Bool };
+    ghost observable: { Bool };
 
     /// Its states up to now: what a read gives now, what a crash may leave now, and what it may
     /// have left before.

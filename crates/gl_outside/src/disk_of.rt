@@ -30,7 +30,7 @@ impl<'a, F: Files> DiskOf<'a, F> {
 impl<'a, F: Files> Disk for DiskOf<'a, F> {
     ghost faults = { λ s. (F.state s.files.now).disks.faults };
 
-    ghost told = { F.disks_told };
+    ghost observable = { F.disks_observable };
 
     ghost past = { λ s. disk_past (F.state s.files.now) s.file.0 };
 

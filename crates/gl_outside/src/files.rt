@@ -61,7 +61,7 @@ pub trait Files {
     ghost state: { Self → FilesState };
 
     /// Whether it is told what disks hold: over memory it is, and over a real system it is not.
-    ghost disks_told: { Bool };
+    ghost disks_observable: { Bool };
 
     /// Opens the file of this name for reading, from its front, and gives it a number of its own. A
     /// file that is missing is
@@ -120,7 +120,7 @@ pub trait Files {
     /// How many bytes a disk has, as `Disk::len` tells.
     fn len(&mut self, file: FileNo) -> Result<u64, Failed>
         requires { IsTrue (is_opened (state self.old).disks file.0) }
-        ensures length { IsTrue disks_told →
+        ensures length { IsTrue disks_observable →
             IfOk result (λ count. count ≡ length (disk_past (state self.old) file.0).now.seen) }
         ensures frame { LooksAtDisk (state self.old) (state self.new) }
         ensures counts { Counts (state self.old).disks.faults (state self.new).disks.faults result };
@@ -129,7 +129,7 @@ pub trait Files {
     fn read_at(&mut self, file: FileNo, at: u64, buf: &mut [u8]) -> Result<usize, Failed>
         requires { IsTrue (is_opened (state self.old).disks file.0) }
         ensures bound { IfOk result (λ count. count ≤ length buf.new) }
-        ensures bytes { IsTrue disks_told →
+        ensures bytes { IsTrue disks_observable →
             ReadsAt (disk_past (state self.old) file.0).now.seen at buf.new result }
         ensures frame { LooksAtDisk (state self.old) (state self.new) }
         ensures counts { Counts (state self.old).disks.faults (state self.new).disks.faults result };
@@ -137,7 +137,7 @@ pub trait Files {
     /// Writes to a disk, as `Disk::write_at` does.
     fn write_at(&mut self, file: FileNo, at: u64, piece: &[u8]) -> Result<(), Failed>
         requires { IsTrue (is_opened (state self.old).disks file.0) }
-        ensures past { IsTrue disks_told →
+        ensures past { IsTrue disks_observable →
             WritesAt (disk_past (state self.old) file.0) at piece.now
             (disk_past (state self.new) file.0) result }
         ensures frame { ChangesDisk file.0 (state self.old) (state self.new) }
@@ -146,7 +146,7 @@ pub trait Files {
     /// Syncs a disk, as `Disk::sync` does.
     fn sync(&mut self, file: FileNo) -> Result<(), Failed>
         requires { IsTrue (is_opened (state self.old).disks file.0) }
-        ensures past { IsTrue disks_told →
+        ensures past { IsTrue disks_observable →
             Syncs (disk_past (state self.old) file.0) (disk_past (state self.new) file.0) result }
         ensures frame { ChangesDisk file.0 (state self.old) (state self.new) }
         ensures counts { Counts (state self.old).disks.faults (state self.new).disks.faults result };
@@ -157,6 +157,6 @@ pub trait Files {
         (state files).contents name ≡ written_of (state files) file };
 
     /// A disk as it reads is one of its images.
-    ghost reads_an_image: { (files : Self) (name : List ℕ) → IsTrue disks_told →
+    ghost reads_an_image: { (files : Self) (name : List ℕ) → IsTrue disks_observable →
         images_now ((state files).pasts name) ((state files).pasts name).now.seen };
 }

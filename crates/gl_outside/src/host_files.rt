@@ -81,7 +81,7 @@ where
 {
     ghost state = { files_of_host };
 
-    ghost disks_told = { false };
+    ghost disks_observable = { false };
 
     fn open_source(&mut self, name: &str) -> Result<FileNo, OpenFault>
         ensures opens { OpensSource (files_of_host self.old)

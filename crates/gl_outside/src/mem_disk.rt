@@ -58,7 +58,7 @@ impl MemDisk {
 impl Disk for MemDisk {
     ghost faults = { λ d. d.calls.faults };
 
-    ghost told = { true };
+    ghost observable = { true };
 
     ghost past = { λ d. past_of d.kept };
 

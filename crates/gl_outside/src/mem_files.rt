@@ -189,7 +189,7 @@ impl MemFiles {
 impl Files for MemFiles {
     ghost state = { files_of_store };
 
-    ghost disks_told = { true };
+    ghost disks_observable = { true };
 
     /// Fails where its number is listed, where no file has the name, and where as many files were
     /// opened as there are numbers for them.

@@ -4,4 +4,4 @@ mod headers;
 mod making;
 
 pub use headers::header_of;
-pub use making::{NoStore, make_store};
+pub use making::{StoreError, make_store};

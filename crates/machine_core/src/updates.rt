@@ -9,7 +9,7 @@ use crate::machine_updates::{Prepared, Spares};
 use crate::machines::Machine;
 use gl_base::{NoMemory, Refused, ScopeId};
 use local_graph::{Batch, Outcome, Work};
-use partition::machine_numbers::{Spare, Spent};
+use partition::machine_numbers::{ScratchBuffers, Spent};
 use scope_locks::scope_pipe::Flight;
 use std::alloc::Global;
 use wire::wire_msgs::Done;
@@ -17,7 +17,7 @@ use wire::wire_msgs::Done;
 impl Machine {
     /// Takes out a scope that is ready for an ordinary update, with the numbers that the update may
     /// use. The lists of `spare` have room for them, so it takes no memory.
-    pub fn take_work(&mut self, flight: Flight, spare: Spare) -> Work
+    pub fn take_work(&mut self, flight: Flight, spare: ScratchBuffers) -> Work
         requires can { CanBeTaken self.old flight.scope flight.centre }
         requires room { HasRoom spare (length (sides_at self.old.numbers.local flight.centre.0)) }
         ensures scope { (result.scope ≡ flight.scope) × (result.vertex ≡ flight.centre) }
@@ -57,7 +57,7 @@ impl Machine {
 
     /// Puts back a work of which no update was made: no number changes, and its scope may be taken
     /// again. It takes no memory, and hands back the lists of the work's numbers.
-    pub fn put_back(&mut self, work: Work) -> Spare
+    pub fn put_back(&mut self, work: Work) -> ScratchBuffers
         requires { IsOut self.old work }
         ensures rows { (x : ℕ) →
             links_at self.new.numbers.local x ≡

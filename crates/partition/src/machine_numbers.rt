@@ -8,7 +8,7 @@ mod learning;
 mod telling;
 mod waking;
 
-pub use keeping::{Numbers, Spare, Spent};
+pub use keeping::{Numbers, ScratchBuffers, Spent};
 pub use laws::{
     lists_are_the_news, news_are_applied, played_parts_have_their_tasks, sides_are_here,
     updates_are_made, works_have_the_numbers,

@@ -19,7 +19,7 @@ use Rattle.snapshot_machines.specs.saving.Machines.{IsFreshMachine}
 use Rattle.cluster_laws.specs.known_parts.Alike.{LooksAlike, with_copies}
 use Rattle.cluster_laws.proofs.known_parts.SeenLemmas.{alike_with}
 use Rattle.snapshot_machines.specs.marking.Keeping.{with_snaps}
-use Rattle.snapshot_machines.specs.locking.Savers.{ArePlansOf, IsSavedRight, IsSnapPartOf}
+use Rattle.snapshot_machines.specs.locking.Machines.{ArePlansOf, IsSavedRight, IsSnapPartOf}
 use Rattle.coordinator.specs.snap_update.Snaps.{SnapRoom, nothing_since}
 use Rattle.cluster_laws.specs.cluster_model.Totals.{total}
 use Rattle.snapshot_machines.specs.wave_counts.Counts.{IsCountOf, none_counted}

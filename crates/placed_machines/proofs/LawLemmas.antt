@@ -11,7 +11,7 @@ use Rattle.graph_core.specs.DataGraph.{DataGraph, IsDataGraph, size}
 use Rattle.update_api.specs.Updates.{Update}
 use Rattle.snapshot_machines.proofs.wave_counts.CountLemmas.{total_from-nothing}
 use Rattle.placed_machines.specs.Beginning.{AreColoursFor, BaseView, Cluster, IsAttemptFrom, IsBaseFor, IsSnapSetting, Setting}
-use Rattle.placed_machines.specs.declared.savers.SavingRun.{SavingRun}
+use Rattle.placed_machines.specs.declared.placing.SavingRun.{SavingRun}
 use Rattle.placed_machines.proofs.RunLemmas.{engine_of, run_setting, runs_by}
 
 -- machines that have admitted so many scopes and done nothing else

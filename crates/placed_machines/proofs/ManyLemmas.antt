@@ -5,8 +5,8 @@ use Rattle.std.proofs.lemmas.List.{get_or_push, length-append}
 use Rattle.std.proofs.Math.ListN.{get_or-append}
 use Rattle.gl_base.specs.declared.snapshots.Base.{Base}
 use Rattle.placement.specs.declared.places.cores.NewTerms.{NewTerms}
-use Rattle.placed_machines.specs.Inner.Making.{AreUnsetParts, CanAllSave, CanSave, Cluster, EngineSaver, GoesBy, HaveAdmitted, IsEngineSaverOf, IsUnsetPart, LocalView, Machine, SavesBy, Setting, StandFirst, Update, goes_back, with_locking}
-use Rattle.placed_machines.specs.declared.savers.Places.{Places}
+use Rattle.placed_machines.specs.Inner.Making.{AreUnsetParts, CanAllSave, CanSave, Cluster, AnyMachine, GoesBy, HaveAdmitted, IsAnyMachineOf, IsUnsetPart, LocalView, Machine, SavesBy, Setting, StandFirst, Update, goes_back, with_locking}
+use Rattle.placed_machines.specs.declared.placing.Places.{Places}
 
 -- the same terms with another serial
 abbrev pub with_serial : NewTerms → ℕ → NewTerms
@@ -48,25 +48,25 @@ can_save parts program base terms own places k s l can low at is =
 
 module _ {P : Type 0} (meaning : P → Update) (program : P) (parts : List LocalView) (base : Base) (terms : NewTerms) (places : Places) (serials : List ℕ) where
   -- each of the first machines is that of the law
-  abbrev pub StandSoFar : List (EngineSaver P) → Type 0
+  abbrev pub StandSoFar : List (AnyMachine P) → Type 0
   StandSoFar savers =
       (st : Setting) (before : Cluster) → SavesBy st (meaning program) base terms places → AreUnsetParts (with_locking st) parts → HaveAdmitted st serials before →
-      (a : ℕ) (d : EngineSaver P) → a < length savers → IsEngineSaverOf meaning st a (goes_back st st.start st.base a (before.machine a)) (get_or savers a d)
+      (a : ℕ) (d : AnyMachine P) → a < length savers → IsAnyMachineOf meaning st a (goes_back st st.start st.base a (before.machine a)) (get_or savers a d)
 
   -- what a new machine with these terms is
-  abbrev pub StandsNew : LocalView → NewTerms → EngineSaver P → Type 0
+  abbrev pub StandsNew : LocalView → NewTerms → AnyMachine P → Type 0
   StandsNew l own x =
       (st : Setting) (m : Machine) → SavesBy st (meaning program) base own places → IsUnsetPart (with_locking st) l.me.0 l → m.part.serial ≡ own.serial →
-      IsEngineSaverOf meaning st l.me.0 (goes_back st st.start st.base l.me.0 m) x
+      IsAnyMachineOf meaning st l.me.0 (goes_back st st.start st.base l.me.0 m) x
 
   -- one machine more
-  pub stand_more : (savers : List (EngineSaver P)) (k : ℕ) (l : LocalView) (own : NewTerms) (x : EngineSaver P) → length savers ≡ k → k < length parts → l ≡ get_or parts k l →
+  pub stand_more : (savers : List (AnyMachine P)) (k : ℕ) (l : LocalView) (own : NewTerms) (x : AnyMachine P) → length savers ≡ k → k < length parts → l ≡ get_or parts k l →
       own ≡ with_serial terms (slice_index serials k) → StandsNew l own x → StandSoFar savers → StandSoFar (savers ++ x ∷ [])
   stand_more savers k l own x count low at is new so_far = λ st before saves are admitted a d below.
       elim (cases_lt a k) [
         | inl earlier ↦
             let inside : a < length savers = subst (λ (n : ℕ). a < n) (sym count) earlier in
-            subst (IsEngineSaverOf meaning st a (goes_back st st.start st.base a (before.machine a))) (sym (get_or-append savers (x ∷ []) d a inside)) (so_far st before saves are admitted a d inside)
+            subst (IsAnyMachineOf meaning st a (goes_back st st.start st.base a (before.machine a))) (sym (get_or-append savers (x ∷ []) d a inside)) (so_far st before saves are admitted a d inside)
         | inr past ↦
             let last : a ≡ k = omega (arith, length-append savers (x ∷ []), count, below) in
             let part = unset_at (with_locking st) parts k l are low at in
@@ -75,15 +75,15 @@ module _ {P : Type 0} (meaning : P → Update) (program : P) (parts : List Local
             ap (λ (b : ℕ). (before.machine b).part.serial) part.machine ∙ admitted k machine ∙ ap (λ (t : NewTerms). t.serial) (sym is) in
             let own_saves : SavesBy st (meaning program) base own places =
             subst (λ (t : NewTerms). SavesBy st (meaning program) base t places) (sym is) (saves_with st (meaning program) base terms places (slice_index serials k) saves) in
-            let stands : IsEngineSaverOf meaning st l.me.0 (goes_back st st.start st.base l.me.0 (before.machine l.me.0)) x =
+            let stands : IsAnyMachineOf meaning st l.me.0 (goes_back st st.start st.base l.me.0 (before.machine l.me.0)) x =
             new st (before.machine l.me.0) own_saves (mine_at (with_locking st) parts k l are low at) serial in
-            let here : IsEngineSaverOf meaning st k (goes_back st st.start st.base k (before.machine k)) x =
-            subst (λ (b : ℕ). IsEngineSaverOf meaning st b (goes_back st st.start st.base b (before.machine b)) x) part.machine stands in
-            subst (λ (b : ℕ). IsEngineSaverOf meaning st b (goes_back st st.start st.base b (before.machine b)) (get_or (savers ++ x ∷ []) b d)) (sym last)
-            (subst (IsEngineSaverOf meaning st k (goes_back st st.start st.base k (before.machine k))) (sym (get_or_push savers x d k count)) here)
+            let here : IsAnyMachineOf meaning st k (goes_back st st.start st.base k (before.machine k)) x =
+            subst (λ (b : ℕ). IsAnyMachineOf meaning st b (goes_back st st.start st.base b (before.machine b)) x) part.machine stands in
+            subst (λ (b : ℕ). IsAnyMachineOf meaning st b (goes_back st st.start st.base b (before.machine b)) (get_or (savers ++ x ∷ []) b d)) (sym last)
+            (subst (IsAnyMachineOf meaning st k (goes_back st st.start st.base k (before.machine k))) (sym (get_or_push savers x d k count)) here)
       ]
 
-  pub all_stand : (savers : List (EngineSaver P)) → length savers ≡ length parts → StandSoFar savers →
+  pub all_stand : (savers : List (AnyMachine P)) → length savers ≡ length parts → StandSoFar savers →
       (st : Setting) (before : Cluster) → SavesBy st (meaning program) base terms places → AreUnsetParts (with_locking st) parts → HaveAdmitted st serials before → StandFirst meaning st before savers
   all_stand savers many so_far st before saves are admitted =
       record {

@@ -2,8 +2,8 @@
 use Rattle.std.proofs.Common.{◌≡◌, ◌<◌, ℕ, ◌∙◌, All, Some, List, length, ap, sym, subst}
 use Rattle.coordinator.specs.declared.coord_core.steps.Engine.{Engine}
 use Rattle.coordinator.specs.declared.coord_core.steps.Engine.TheVariants.{Chromatic, Locking}
-use Rattle.placed_machines.specs.declared.engine_savers.savers.EngineSaver.{EngineSaver}
-use Rattle.placed_machines.specs.declared.engine_savers.savers.EngineSaver.TheVariants as saver
+use Rattle.placed_machines.specs.declared.any_machine.machines.AnyMachine.{AnyMachine}
+use Rattle.placed_machines.specs.declared.any_machine.machines.AnyMachine.TheVariants as saver
 use Rattle.gl_base.specs.declared.numbers.Vertex.{Vertex}
 use Rattle.gl_base.specs.declared.snapshots.Base.{Base}
 use Rattle.graph_core.specs.DataGraph.{size}
@@ -15,11 +15,11 @@ use Rattle.placement.specs.places.Cores.{IsMadeWith}
 use Rattle.placement.specs.declared.places.cores.NewTerms.{NewTerms}
 use Rattle.placement.proofs.places.NewLemmas.{begins_here, made_itself}
 use Rattle.placement.specs.graphs.Beginnings.{AreFirstNumbers, AreFreshTasks, BeginsAt, IsReadyPart}
-use Rattle.placed_machines.specs.color_savers.Savers.{IsColorSaverOf}
+use Rattle.placed_machines.specs.chromatic.Machines.{IsChromaticMachineOf}
 use Rattle.snapshot_machines.specs.saving.Machines.{IsFreshMachine}
-use Rattle.snapshot_machines.specs.locking.Savers.{IsSaverOf}
+use Rattle.snapshot_machines.specs.locking.Machines.{IsLockingMachineOf}
 use Rattle.coordinator.specs.snap_update.Snaps.{nothing_since}
-use Rattle.placed_machines.specs.Inner.Making.{AreColoursFor, BeginsWith, GoesBy, IsEngineSaverOf, Machine, RunsBy, Setting, Update, goes_back, takes_locks, with_locking}
+use Rattle.placed_machines.specs.Inner.Making.{AreColoursFor, BeginsWith, GoesBy, IsAnyMachineOf, Machine, RunsBy, Setting, Update, goes_back, takes_locks, with_locking}
 use Rattle.placed_machines.specs.Inner.Members.{CanRunInColours, FitsEngine, IsNewMember, SnapMachineView, in_own_colours}
 use Rattle.placed_machines.proofs.FirstLemmas.{fresh_machine}
 use Rattle.placed_machines.proofs.SaverLemmas.{color_of, first_color_saver, first_machine, first_saver, fresh_in_steps, stands_first, stands_in_colours}
@@ -66,7 +66,7 @@ module _ (st : Setting) (window : ℕ) (terms : NewTerms) (a : ℕ) (n : Numbers
       number : core.numbers.local.me.0 ≡ a
       number = ap (λ (k : Numbers). k.local.me.0) made.numbers_are ∙ ready.machine
 
-      pub member_first : (e : Engine) (colours : List ℕ) → RunsBy e colours st → (x : EngineSaver P) → IsNewMember e colours window machine x → IsEngineSaverOf meaning st a (goes_back st st.start st.base a law) x
+      pub member_first : (e : Engine) (colours : List ℕ) → RunsBy e colours st → (x : AnyMachine P) → IsNewMember e colours window machine x → IsAnyMachineOf meaning st a (goes_back st st.start st.base a law) x
       member_first Locking colours by (saver.Locking x) new =
           let same : first_saver st window terms core goes begins_in made_of meaning program runs machine.kept.room law serial same_window x.reports.room ≡ x = λ i. record {
             machine = (machine_same ∙ sym new.machine_is) i;
@@ -74,8 +74,8 @@ module _ (st : Setting) (window : ℕ) (terms : NewTerms) (a : ℕ) (n : Numbers
             window = sym new.window_is i;
             reports = record { messages = sym new.reports i; room = x.reports.room };
           } in
-          subst (λ (b : ℕ). IsSaverOf meaning st b (goes_back st st.start st.base b law) x) number
-          (subst (IsSaverOf meaning st core.numbers.local.me.0 (goes_back st st.start st.base core.numbers.local.me.0 law)) same
+          subst (λ (b : ℕ). IsLockingMachineOf meaning st b (goes_back st st.start st.base b law) x) number
+          (subst (IsLockingMachineOf meaning st core.numbers.local.me.0 (goes_back st st.start st.base core.numbers.local.me.0 law)) same
           (stands_first st window terms core goes begins_in made_of meaning program runs machine.kept.room law serial same_window x.reports.room by))
       member_first Locking colours by (saver.Chromatic x) new = absurd new
       member_first (Chromatic greatest) colours by (saver.Locking x) new = absurd new
@@ -87,6 +87,6 @@ module _ (st : Setting) (window : ℕ) (terms : NewTerms) (a : ℕ) (n : Numbers
             window = sym new.window_is i;
             reports = record { messages = sym new.reports i; room = x.reports.room };
           } in
-          subst (λ (b : ℕ). IsColorSaverOf meaning st b (goes_back st st.start st.base b law) x) number
-          (subst (IsColorSaverOf meaning st core.numbers.local.me.0 (goes_back st st.start st.base core.numbers.local.me.0 law)) same
+          subst (λ (b : ℕ). IsChromaticMachineOf meaning st b (goes_back st st.start st.base b law) x) number
+          (subst (IsChromaticMachineOf meaning st core.numbers.local.me.0 (goes_back st st.start st.base core.numbers.local.me.0 law)) same
           (stands_in_colours st window terms core goes begins_in made_of meaning program runs machine.kept.room law serial same_window x.reports.room few colours greatest by))

@@ -11,10 +11,10 @@ use Rattle.gl_base.specs.declared.snapshots.Base.{Base}
 use Rattle.graph_core.specs.DataGraph.{DataGraph, IsDataGraph, size}
 use Rattle.placement.proofs.places.OwnerLemmas.{owner_low}
 use Rattle.placement.specs.declared.places.cores.NewTerms.{NewTerms}
-use Rattle.placed_machines.specs.Beginning.{AreColoursFor, AreSaversOf, BaseView, IsBaseFor, IsBaseOf, IsSavingRunOf, placed_owner}
-use Rattle.placed_machines.specs.Inner.Making.{AreUnsetParts, CanAllSave, Cluster, EngineSaver, GoesBy, IsOwnedBy, IsRunFrom, LocalView, RunsBy, SavesBy, Setting, StandFirst, Update, takes_locks, with_locking}
-use Rattle.placed_machines.specs.declared.savers.Places.{Places}
-use Rattle.placed_machines.specs.declared.savers.SavingRun.{SavingRun}
+use Rattle.placed_machines.specs.Beginning.{AreColoursFor, AreAnyMachinesOf, BaseView, IsBaseFor, IsBaseOf, IsSavingRunOf, placed_owner}
+use Rattle.placed_machines.specs.Inner.Making.{AreUnsetParts, CanAllSave, Cluster, AnyMachine, GoesBy, IsOwnedBy, IsRunFrom, LocalView, RunsBy, SavesBy, Setting, StandFirst, Update, takes_locks, with_locking}
+use Rattle.placed_machines.specs.declared.placing.Places.{Places}
+use Rattle.placed_machines.specs.declared.placing.SavingRun.{SavingRun}
 
 -- ---- engines
 
@@ -125,5 +125,5 @@ module _ (g : DataGraph) (program : Update) (owner : ℕ → ℕ) (colours : Lis
   }
 
 -- those that stand first stand for the law's machines as they go back to the base
-pub savers_of : {P : Type 0} (meaning : P → Update) (st : Setting) (view : BaseView) (before : Cluster) (savers : List (EngineSaver P)) → StandFirst meaning (going_on st view.numbers view.number) before savers → AreSaversOf meaning st view before savers
+pub savers_of : {P : Type 0} (meaning : P → Update) (st : Setting) (view : BaseView) (before : Cluster) (savers : List (AnyMachine P)) → StandFirst meaning (going_on st view.numbers view.number) before savers → AreAnyMachinesOf meaning st view before savers
 savers_of meaning st view before savers first = record { many = first.many; each = first.each }

@@ -5,7 +5,7 @@ use Rattle.std.proofs.lemmas.Bool.{lt-ltb, ltb-true}
 use Rattle.std.proofs.lemmas.List.{length-map}
 use Rattle.cluster_laws.proofs.cluster_core.Basics.{same_truth}
 use Rattle.cluster_laws.specs.cluster_core.Settings.{Locking}
-use Rattle.placed_machines.specs.color_savers.Savers.{IsColorSaverOf}
+use Rattle.placed_machines.specs.chromatic.Machines.{IsChromaticMachineOf}
 use Rattle.snapshot_machines.specs.chromatic.Machines.{IsColorSnapPart}
 use Rattle.coordinator.specs.declared.coord_core.steps.Engine.TheVariants.{Chromatic}
 use Rattle.partition.specs.machine_numbers.Views.{is_flagged}
@@ -19,12 +19,12 @@ use Rattle.placement.specs.places.Cores.{IsMadeWith}
 use Rattle.placement.specs.declared.places.cores.NewTerms.{NewTerms}
 use Rattle.placement.proofs.places.NewLemmas.{part_is}
 use Rattle.placement.specs.graphs.Beginnings.{BeginsAt}
-use Rattle.snapshot_machines.specs.locking.Savers.{IsSaverOf}
+use Rattle.snapshot_machines.specs.locking.Machines.{IsLockingMachineOf}
 use Rattle.coordinator.specs.snap_update.Snaps.{SnapRoom, nothing_since}
 use Rattle.coordinator.proofs.snap_update.SavedOnce.{nothing_once}
 use Rattle.snapshot_machines.specs.wave_counts.Counts.{none_counted}
 use Rattle.placed_machines.specs.Inner.Making.{GoesBy, Machine, RunsBy, Setting, Update, goes_back, with_locking}
-use Rattle.placed_machines.specs.Inner.Members.{ColorSaverView, IsColorSnapOf, IsFreshInSteps, SaverView, SnapMachineView, in_own_colours}
+use Rattle.placed_machines.specs.Inner.Members.{ChromaticMachineView, IsColorSnapOf, IsFreshInSteps, LockingMachineView, SnapMachineView, in_own_colours}
 use Rattle.placed_machines.proofs.FirstLemmas.{counts_first, kept_first, looks_first, plans_first, saved_first}
 
 -- with locks the setting is itself
@@ -83,7 +83,7 @@ module _ (st : Setting) (window : ℕ) (terms : NewTerms) (m : Core) (goes : Goe
       back = goes_back st st.start st.base here law
 
       -- with nothing counted and nothing told
-      abbrev pub first_saver : SaverView P
+      abbrev pub first_saver : LockingMachineView P
       first_saver = record {
         machine = first_machine;
         counts = none_counted;
@@ -91,7 +91,7 @@ module _ (st : Setting) (window : ℕ) (terms : NewTerms) (m : Core) (goes : Goe
         reports = record { messages = []; room = reports };
       }
 
-      pub stands_first : st.engine ≡ Locking → IsSaverOf meaning st here back first_saver
+      pub stands_first : st.engine ≡ Locking → IsLockingMachineOf meaning st here back first_saver
       stands_first locks = record {
         here = subst (λ (s : Setting). IsPartOf s m) (locked st locks) part_there;
         number = refl;
@@ -107,7 +107,7 @@ module _ (st : Setting) (window : ℕ) (terms : NewTerms) (m : Core) (goes : Goe
         reports = tt;
       }
 
-      abbrev pub first_color_saver : List ℕ → ColorSaverView P
+      abbrev pub first_color_saver : List ℕ → ChromaticMachineView P
       first_color_saver colours = record {
         machine = in_own_colours first_machine colours;
         counts = none_counted;
@@ -115,7 +115,7 @@ module _ (st : Setting) (window : ℕ) (terms : NewTerms) (m : Core) (goes : Goe
         reports = record { messages = []; room = reports };
       }
 
-      pub stands_in_colours : terms.machines < 65536 → (colours : List ℕ) (greatest : ℕ) → RunsBy (Chromatic greatest) colours st → IsColorSaverOf meaning st here back (first_color_saver colours)
+      pub stands_in_colours : terms.machines < 65536 → (colours : List ℕ) (greatest : ℕ) → RunsBy (Chromatic greatest) colours st → IsChromaticMachineOf meaning st here back (first_color_saver colours)
       stands_in_colours few colours greatest by = record {
         here = color_of colours greatest by;
         few = subst (λ (n : ℕ). n < 65536) (sym goes.machines) few;

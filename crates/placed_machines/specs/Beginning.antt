@@ -3,8 +3,8 @@ pub use Rattle.cluster_laws.specs.cluster_model.Clusters.{BaseView, Cluster}
 pub use Rattle.placement.specs.graphs.Beginnings.{IsBaseFor}
 pub use Rattle.placement.specs.graphs.Placed.{IsOwnedBy, placed_owner}
 pub use Rattle.coordinator.specs.machine_api.Going.{IsSnapSetting}
-pub use Rattle.placed_machines.specs.engine_savers.Savers.{IsEngineSaverOf, Setting}
-pub use Rattle.placed_machines.specs.declared.engine_savers.savers.EngineSaver.{EngineSaver}
+pub use Rattle.placed_machines.specs.any_machine.Machines.{IsAnyMachineOf, Setting}
+pub use Rattle.placed_machines.specs.declared.any_machine.machines.AnyMachine.{AnyMachine}
 use Rattle.std.specs.Prelude.{All, List, length, slice_index, slice_index_or, ⊤, ℕ, ◌<◌, ◌≡◌}
 use Rattle.cluster_laws.specs.cluster_core.Recovering.{going_on}
 use Rattle.cluster_laws.specs.cluster_core.Settings as law
@@ -16,8 +16,8 @@ use Rattle.graph_core.specs.Colourings.{IsProperColouring}
 use Rattle.graph_core.specs.DataGraph.{DataGraph, size}
 use Rattle.seq_run.specs.Runs.{AreNumbers}
 use Rattle.update_api.specs.Updates.{Update}
-use Rattle.placed_machines.specs.declared.savers.Places.{Places}
-use Rattle.placed_machines.specs.declared.savers.SavingRun.{SavingRun}
+use Rattle.placed_machines.specs.declared.placing.Places.{Places}
+use Rattle.placed_machines.specs.declared.placing.SavingRun.{SavingRun}
 
 -- ---- engines
 
@@ -68,9 +68,9 @@ HaveAdmitted st serials before = (a : ℕ) → a < st.machines → (before.machi
 
 -- There are as many machines as the cluster has, and each is the one of the law at its place, as an attempt begins from this base, whatever was
 -- before.
-pub record AreSaversOf {P : Type 0} (meaning : P → Update) (st : Setting) (view : BaseView) (before : Cluster) (savers : List (EngineSaver P)) : Type 0 where
+pub record AreAnyMachinesOf {P : Type 0} (meaning : P → Update) (st : Setting) (view : BaseView) (before : Cluster) (savers : List (AnyMachine P)) : Type 0 where
   pub many : length savers ≡ st.machines
-  pub each : (a : ℕ) (d : EngineSaver P) → a < st.machines → IsEngineSaverOf meaning (going_on st view.numbers view.number) a ((recovers st view before).machine a) (slice_index_or savers a d)
+  pub each : (a : ℕ) (d : AnyMachine P) → a < st.machines → IsAnyMachineOf meaning (going_on st view.numbers view.number) a ((recovers st view before).machine a) (slice_index_or savers a d)
 
 -- An attempt of the law that runs so and begins from this base, behind a cluster whose machines have admitted so many scopes, with these
 -- tickets, and with so many bytes of the store in use.

@@ -1,4 +1,4 @@
-pub mod color_savers
-pub mod engine_savers
+pub mod chromatic
+pub mod any_machine
 pub mod Beginning
 pub mod Inner

@@ -4,7 +4,7 @@ ghost use Rattle.gl_base.specs.declared.snapshots.Base.{Base};
 ghost use Rattle.graph_core.specs.DataGraph.{DataGraph, IsDataGraph, size};
 ghost use Rattle.update_api.specs.Updates.{Update};
 ghost use Rattle.placed_machines.specs.Beginning.{AreColoursFor, IsAttemptFrom, IsBaseFor};
-ghost use Rattle.placed_machines.specs.declared.savers.SavingRun.{SavingRun};
+ghost use Rattle.placed_machines.specs.declared.placing.SavingRun.{SavingRun};
 
 /// For every graph, program, owners, colours that keep neighbours apart, base, and whatever numbers
 /// of scopes machines have admitted, there is an attempt of the law that begins so, with these

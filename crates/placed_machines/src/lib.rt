@@ -1,12 +1,12 @@
 //! The machines of an attempt, of either engine, from the graph and what a store has.
 #![tactic(auto)]
 
-pub mod color_savers;
-pub mod engine_savers;
+pub mod any_machine;
+pub mod chromatic;
 mod laws;
 mod machines;
 mod members;
-mod savers;
+mod placing;
 
 pub use laws::attempts_can_begin;
-pub use savers::{Places, SavingRun, placed_savers};
+pub use placing::{Places, SavingRun, machines_of_attempt};

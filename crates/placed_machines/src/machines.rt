@@ -1,10 +1,10 @@
 //! One machine of an attempt, and those of all parts of a graph.
 ghost use Rattle.std.specs.Prelude.{◌≡◌, ℕ, length, IfOk};
-ghost use Rattle.placed_machines.specs.Inner.Making.{AreUnsetParts, CanAllSave, CanSave, Cluster, HaveAdmitted, IsEngineSaverOf, IsUnsetPart, Machine, SavesBy, Setting, StandFirst, goes_back, with_locking};
+ghost use Rattle.placed_machines.specs.Inner.Making.{AreUnsetParts, CanAllSave, CanSave, Cluster, HaveAdmitted, IsAnyMachineOf, IsUnsetPart, Machine, SavesBy, Setting, StandFirst, goes_back, with_locking};
 
-use crate::engine_savers::EngineSaver;
+use crate::any_machine::AnyMachine;
 use crate::members::new_member;
-use crate::savers::Places;
+use crate::placing::Places;
 use gl_base::{Base, NoMemory};
 use local_graph::LocalGraph;
 use placement::graphs::first_numbers;
@@ -22,12 +22,12 @@ fn new_saver<P: Program>(
     base: &Base,
     places: &Places,
     terms: NewTerms,
-) -> Result<EngineSaver<P>, NoMemory>
+) -> Result<AnyMachine<P>, NoMemory>
     requires { CanSave local (P.meaning program) base.now terms places.now }
     ensures { (st : Setting) (m : Machine) →
         SavesBy st (P.meaning program) base.now terms places.now →
         IsUnsetPart (with_locking st) local.me.0 local → m.part.serial ≡ terms.serial →
-        IfOk result (IsEngineSaverOf P.meaning st local.me.0
+        IfOk result (IsAnyMachineOf P.meaning st local.me.0
         (goes_back st st.start st.base local.me.0 m)) }
 {
     let _many = terms.machines;
@@ -38,7 +38,7 @@ fn new_saver<P: Program>(
 }
 
 /// A new machine for each part, in turn, each with its serial.
-pub fn new_savers<P: Program>(
+pub fn new_members<P: Program>(
     alloc: Global,
     parts: Vec<LocalGraph>,
     program: P,
@@ -46,7 +46,7 @@ pub fn new_savers<P: Program>(
     places: &Places,
     terms: NewTerms,
     serials: &[u64],
-) -> Result<Vec<EngineSaver<P>>, NoMemory>
+) -> Result<Vec<AnyMachine<P>>, NoMemory>
     requires can { CanAllSave parts.items (P.meaning program) base.now terms places.now }
     requires serials { length serials.now ≡ length parts.items }
     ensures stand { (st : Setting) (before : Cluster) →

@@ -1,15 +1,15 @@
 //! A new machine as a member of a cluster, as the engine wants it.
 ghost use Rattle.std.specs.Prelude.{IfOk};
-ghost use Rattle.placed_machines.specs.Inner.Members.{CanRunInColours, FitsEngine, IsNewColorSaver, IsNewMember, in_own_colours};
+ghost use Rattle.placed_machines.specs.Inner.Members.{CanRunInColours, FitsEngine, IsNewChromaticMachine, IsNewMember, in_own_colours};
 
-use crate::color_savers::ColorSaver;
-use crate::engine_savers::EngineSaver;
-use crate::savers::Places;
+use crate::any_machine::AnyMachine;
+use crate::chromatic::ChromaticMachine;
+use crate::placing::Places;
 use coordinator::coord_core::Engine;
 use gl_base::NoMemory;
 use placement::places::colours_of;
 use snapshot_machines::chromatic::ColorSnapMachine;
-use snapshot_machines::locking::Saver;
+use snapshot_machines::locking::LockingMachine;
 use snapshot_machines::saving::SnapMachine;
 use std::alloc::Global;
 use update_api::Program;
@@ -20,17 +20,17 @@ pub fn new_member<P: Program>(
     alloc: Global,
     machine: SnapMachine<P>,
     places: &Places,
-) -> Result<EngineSaver<P>, NoMemory>
+) -> Result<AnyMachine<P>, NoMemory>
     requires { FitsEngine P.meaning places.now.run.engine places.now.colours.items machine }
     ensures { IfOk result
         (IsNewMember places.now.run.engine places.now.colours.items places.now.run.window machine) }
 {
     let window = places.run.window;
     match places.run.engine {
-        Engine::Locking => Ok(EngineSaver::Locking(Saver::new(alloc, machine, window))),
+        Engine::Locking => Ok(AnyMachine::Locking(LockingMachine::new(alloc, machine, window))),
         Engine::Chromatic(_) => {
             let saver = new_color_saver(alloc, machine, &places.colours, window)?;
-            Ok(EngineSaver::Chromatic(saver))
+            Ok(AnyMachine::Chromatic(saver))
         }
     }
 }
@@ -42,11 +42,11 @@ fn new_color_saver<P: Program>(
     machine: SnapMachine<P>,
     colours: &[u32],
     window: u32,
-) -> Result<ColorSaver<P>, NoMemory>
+) -> Result<ChromaticMachine<P>, NoMemory>
     requires { CanRunInColours P.meaning colours.now machine }
-    ensures { IfOk result (IsNewColorSaver (in_own_colours machine colours.now) window) }
+    ensures { IfOk result (IsNewChromaticMachine (in_own_colours machine colours.now) window) }
 {
     let own = colours_of(alloc, &machine.core().by_place, colours)?;
     let machine = ColorSnapMachine::new(alloc, machine, &own)?;
-    Ok(ColorSaver::new(alloc, machine, window))
+    Ok(ChromaticMachine::new(alloc, machine, window))
 }

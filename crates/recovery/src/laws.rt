@@ -9,7 +9,7 @@ ghost use Rattle.recovery.specs.GoodStores.{IsGoodStore, GoesBehind, GoesWith};
 /// A store without snapshots is good. Whatever a crash leaves of a good store to which a record is
 /// added that goes with it, that is a good store. The numbers of a record that a program has fit
 /// their fields.
-pub fn appends_keep_stores_good()
+pub fn append_preserves_validity()
     ensures none { (shared : Shared) (header : Header) → IsGoodStore shared header [] }
     ensures records { (shared : Shared) (header : Header) (bodies : List (List ℕ))
         (next : Record) (image : List ℕ) →

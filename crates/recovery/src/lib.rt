@@ -8,5 +8,5 @@ pub mod records;
 mod recovered;
 pub mod restarts;
 
-pub use laws::appends_keep_stores_good;
+pub use laws::append_preserves_validity;
 pub use recovered::{recover, start_base};

@@ -1,7 +1,7 @@
 //! The base of a run.
 ghost use Rattle.std.specs.Prelude.{◌≡◌, ◌≤◌, false, IsTrue, IfOk, IfErr};
 ghost use Rattle.recovery.specs.Orders.{Shared};
-ghost use Rattle.recovery.specs.Journals.{snapshots_in, IsWhyNoLast};
+ghost use Rattle.recovery.specs.Journals.{snapshots_in, LastErrorCause};
 ghost use Rattle.recovery.specs.GoodStores.{IsGoodStore, IsGoodBase};
 ghost use Rattle.recovery.specs.Recovered.{FitsGraph, IsStartBase, IsRecovered, IsHeaderOf};
 
@@ -24,12 +24,12 @@ pub fn recover<D: Disk, P: Program>(
     graph: &Graph,
     program: &P,
 ) -> Result<Base, JournalFault>
-    ensures base { IsTrue D.told →
+    ensures base { IsTrue D.observable →
         IfOk result (IsRecovered graph.now (P.meaning program.now) journal.old.header
         (snapshots_in D.past journal.old)) }
 
     // From a good store for this graph and program comes a good base.
-    ensures good { IsTrue D.told → (shared : Shared) → shared.graph ≡ graph.now →
+    ensures good { IsTrue D.observable → (shared : Shared) → shared.graph ≡ graph.now →
         shared.program ≡ P.meaning program.now →
         IsHeaderOf graph.now journal.old.header →
         IsGoodStore shared journal.old.header (snapshots_in D.past journal.old) →
@@ -41,9 +41,9 @@ pub fn recover<D: Disk, P: Program>(
     ensures well { IfOk result (λ base. (journal.old.failed ≡ false) ×
         (journal.new.failed ≡ false)) }
     ensures refused { IfErr result
-        (IsWhyNoLast (IsTrue D.told) journal.old.failed journal.new.failed
+        (LastErrorCause (IsTrue D.observable) journal.old.failed journal.new.failed
         (D.faults journal.old.disk) (D.faults journal.new.disk)) }
-    ensures past { IsTrue D.told → D.past journal.new.disk ≡ D.past journal.old.disk }
+    ensures past { IsTrue D.observable → D.past journal.new.disk ≡ D.past journal.old.disk }
     ensures kept { journal.new ≡ record journal.old {
       disk = journal.new.disk;
       failed = journal.new.failed;

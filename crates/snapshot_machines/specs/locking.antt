@@ -1,3 +1,3 @@
 pub mod Reports
-pub mod Savers
+pub mod Machines
 pub mod Asking

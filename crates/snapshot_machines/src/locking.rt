@@ -2,14 +2,14 @@
 //! tells the coordinator.
 
 mod hearing;
+mod machines;
 mod members;
 mod reading;
 mod receiving;
 mod reports;
-mod savers;
 mod scopes;
 mod snapshots;
 mod updates;
 
+pub use machines::LockingMachine;
 pub use reports::Reports;
-pub use savers::Saver;

@@ -123,12 +123,12 @@ fn play(table: &mut LockTable, plain: &mut [Plain], seed: u64) -> Result<u32, No
 pub fn print_random_locks(rt: &impl Print, alloc: Global) -> io::Result<()> {
     let owned = [Vertex(3), Vertex(0), Vertex(2), Vertex(1)];
     match LockTable::new(alloc, &owned, 4) {
-        Ok(mut table) => print_courses(rt, alloc, &mut table),
+        Ok(mut table) => print_traces(rt, alloc, &mut table),
         Err(fault) => println!(rt; "random locks: {fault}"),
     }
 }
 
-fn print_courses(rt: &impl Print, alloc: Global, table: &mut LockTable) -> io::Result<()> {
+fn print_traces(rt: &impl Print, alloc: Global, table: &mut LockTable) -> io::Result<()> {
     for seed in 0..8 {
         print_alike(rt, "locks", seed, play_from_start(table, seed, alloc))?;
         table.reset();

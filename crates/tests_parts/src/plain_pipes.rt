@@ -177,7 +177,7 @@ fn behind(rest: &[MachineNo]) -> Next {
 /// Prints how many of 1,000 calls a pipe answers as plain lists do, at each of 8 seeds.
 pub fn print_random_pipes(rt: &impl Print, alloc: Global) -> io::Result<()> {
     match empty(alloc) {
-        Ok(mut both) => print_courses(rt, alloc, &mut both),
+        Ok(mut both) => print_traces(rt, alloc, &mut both),
         Err(fault) => println!(rt; "random pipes: {fault}"),
     }
 }
@@ -191,7 +191,7 @@ fn empty(alloc: Global) -> Result<Both, NoMemory> {
     })
 }
 
-fn print_courses(rt: &impl Print, alloc: Global, both: &mut Both) -> io::Result<()> {
+fn print_traces(rt: &impl Print, alloc: Global, both: &mut Both) -> io::Result<()> {
     for seed in 0..8 {
         print_alike(rt, "pipes", seed, both.play(seed, alloc))?;
         both.reset();

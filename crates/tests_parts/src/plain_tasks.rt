@@ -146,12 +146,12 @@ fn have_alike(set: &TaskSet, plain: &Plain) -> bool {
 /// Prints how many of 1,000 calls a task set answers as plain lists do, at each of 8 seeds.
 pub fn print_random_tasks(rt: &impl Print, alloc: Global) -> io::Result<()> {
     match TaskSet::new(alloc, COUNT, Some(WINDOW as u32)) {
-        Ok(mut set) => print_courses(rt, alloc, &mut set),
+        Ok(mut set) => print_traces(rt, alloc, &mut set),
         Err(fault) => println!(rt; "random tasks: {fault}"),
     }
 }
 
-fn print_courses(rt: &impl Print, alloc: Global, set: &mut TaskSet) -> io::Result<()> {
+fn print_traces(rt: &impl Print, alloc: Global, set: &mut TaskSet) -> io::Result<()> {
     for seed in 0..8 {
         print_alike(rt, "tasks", seed, play_from_start(set, seed, alloc))?;
         set.reset();

@@ -7,9 +7,9 @@ use Rattle.coordinator.specs.coord_core.Coordinators.{IsEngineOf, StoreView}
 use Rattle.coordinator.specs.declared.coord_core.steps.Engine.{Engine}
 use Rattle.coordinator.specs.declared.coord_core.steps.Engine.TheVariants.{Chromatic, Locking}
 use Rattle.placement.proofs.places.OwnerLemmas.{owner_low}
-use Rattle.placed_machines.specs.Beginning.{ArePlacesOf, AreSaversOf, BaseView, Cluster, HaveAdmitted, IsBaseFor, IsBaseOf, IsEngineSaverOf, IsRunAt, RunsBy, Setting, placed_owner}
-use Rattle.placed_machines.specs.declared.engine_savers.savers.EngineSaver.{EngineSaver}
-use Rattle.placed_machines.specs.declared.savers.Places.{Places}
+use Rattle.placed_machines.specs.Beginning.{ArePlacesOf, AreAnyMachinesOf, BaseView, Cluster, HaveAdmitted, IsBaseFor, IsBaseOf, IsAnyMachineOf, IsRunAt, RunsBy, Setting, placed_owner}
+use Rattle.placed_machines.specs.declared.any_machine.machines.AnyMachine.{AnyMachine}
+use Rattle.placed_machines.specs.declared.placing.Places.{Places}
 use Rattle.placed_machines.proofs.LawLemmas.{attempt_begins}
 use Rattle.cluster_step.specs.clusters.Clusters.{StartsSaving}
 
@@ -18,11 +18,11 @@ led_by : (engine : Engine) (colours : List ℕ) (st : Setting) → RunsBy engine
 led_by Locking colours st runs = runs
 led_by (Chromatic greatest) colours st runs = (runs.0, runs.1)
 
-pub start_of : {P : Type 0} (meaning : P → Update) (g : DataGraph) (program : Update) (places : Places) (base : Base) (serials : List ℕ) (savers : List (EngineSaver P)) (store : StoreView) (next left : ℕ) → IsDataGraph g
+pub start_of : {P : Type 0} (meaning : P → Update) (g : DataGraph) (program : Update) (places : Places) (base : Base) (serials : List ℕ) (savers : List (AnyMachine P)) (store : StoreView) (next left : ℕ) → IsDataGraph g
     → ArePlacesOf g places.run.machines places → IsBaseFor g base
-    → ((st : Setting) (view : BaseView) (before : Cluster) → IsRunAt g program places st → IsBaseOf st base view → HaveAdmitted st serials before → AreSaversOf meaning st view before savers)
+    → ((st : Setting) (view : BaseView) (before : Cluster) → IsRunAt g program places st → IsBaseOf st base view → HaveAdmitted st serials before → AreAnyMachinesOf meaning st view before savers)
     → store.vertices ≡ size g → store.edges ≡ length g.edges → store.newest ≡ base.number
-    → (st : Setting) × (view : BaseView) × (before : Cluster) × StartsSaving (IsEngineSaverOf meaning) savers places.run.engine store next left st view before
+    → (st : Setting) × (view : BaseView) × (before : Cluster) × StartsSaving (IsAnyMachineOf meaning) savers places.run.engine store next left st view before
 start_of meaning g program places base serials savers store next left graph are for stand vertices edges newest =
     let of = places.of.items in
     let owner = places.owner.items in

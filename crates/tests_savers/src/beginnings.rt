@@ -2,28 +2,28 @@
 ghost use Rattle.std.specs.Prelude.{◌≡◌, ◌+◌, ◌^◌, ◌<◌, ℕ, All, IfOk, IsTrue, length};
 ghost use Rattle.coordinator.specs.coord_core.Stores.{store_view};
 ghost use Rattle.graph_core.specs.DataGraph.{IsDataGraph, size};
-ghost use Rattle.placed_machines.specs.Beginning.{AreColoursFor, ArePlacesOf, BaseView, Cluster, IsBaseFor, IsEngineSaverOf, Setting};
+ghost use Rattle.placed_machines.specs.Beginning.{AreColoursFor, ArePlacesOf, BaseView, Cluster, IsBaseFor, IsAnyMachineOf, Setting};
 ghost use Rattle.cluster_step.specs.clusters.Clusters.{StartsSaving};
 
 use crate::plans::Plan;
 use crate::trouble::Trouble;
 use cluster_step::clusters::{SavingMachine, SnapCluster};
-use cluster_step::trace::Course;
+use cluster_step::trace::Trace;
 use coordinator::coord_core::{Engine, Store};
 use gl_base::{Algorithm, AtomNo, Base, EngineKind, FailureAt, MachineNo, NoMemory, Vertex};
 use graph_core::Graph;
 use graph_core::color_steps::{greatest_colour, greedy_colouring};
-use placed_machines::engine_savers::EngineSaver;
-use placed_machines::{Places, SavingRun, placed_savers};
+use placed_machines::any_machine::AnyMachine;
+use placed_machines::{Places, SavingRun, machines_of_attempt};
 use placement::graphs::first_base;
 use std::alloc::Global;
 use update_api::Program;
 
 /// A cluster that takes snapshots, whose machines run this program.
-pub type Whole<P> = SnapCluster<EngineSaver<P>>;
+pub type Whole<P> = SnapCluster<AnyMachine<P>>;
 
 /// Such a cluster in the course of a call.
-pub type InCourse<P> = Course<EngineSaver<P>>;
+pub type InTrace<P> = Trace<AnyMachine<P>>;
 
 /// As many tickets as there are at most.
 const MOST_TICKETS: u64 = 4611686018427387904;
@@ -209,7 +209,7 @@ fn places_of<P: Program>(alloc: Global, beginning: &Beginning<'_, P>) -> Result<
 /// The machines that begin an attempt, their engine, and the store of their base.
 #[derive(Drop)]
 struct Start<P: Program> {
-    machines: Vec<EngineSaver<P>>,
+    machines: Vec<AnyMachine<P>>,
     engine: Engine,
     store: Store,
 }
@@ -224,7 +224,7 @@ fn start_from<P: Program>(
 ) -> Result<Start<P>, Trouble>
     ensures start { IfOk result (λ start. (next left : ℕ) → (st : Setting) × (view : BaseView) ×
         (before : Cluster) ×
-        StartsSaving (IsEngineSaverOf P.meaning) start.machines.items start.engine
+        StartsSaving (IsAnyMachineOf P.meaning) start.machines.items start.engine
         (store_view start.store) next left st view before) }
     ensures many { IfOk result (λ start. length start.machines.items < 65535) }
     ensures newest { IfOk result (λ start. start.store.newest + 1 < 2 ^ 32) }
@@ -246,7 +246,7 @@ fn start_at<P: Program>(
     requires graph { IsDataGraph beginning.now.graph.now }
     ensures start { IfOk result (λ start. (next left : ℕ) → (st : Setting) × (view : BaseView) ×
         (before : Cluster) ×
-        StartsSaving (IsEngineSaverOf P.meaning) start.machines.items start.engine
+        StartsSaving (IsAnyMachineOf P.meaning) start.machines.items start.engine
         (store_view start.store) next left st view before) }
     ensures many { IfOk result (λ start. length start.machines.items < 65535) }
     ensures newest { IfOk result (λ start. start.store.newest + 1 < 2 ^ 32) }
@@ -264,7 +264,7 @@ fn start_at<P: Program>(
     if store.newest == u32::MAX || store.length > MOST_BYTES {
         return Err(Trouble::Because("the store is too great"));
     }
-    let machines = placed_savers(alloc, graph, program, base, places, serials)?;
+    let machines = machines_of_attempt(alloc, graph, program, base, places, serials)?;
     Ok(Start {
         machines,
         engine: run.engine,
@@ -290,7 +290,7 @@ fn first_start<P: Program>(
 ) -> Result<Start<P>, Trouble>
     ensures start { IfOk result (λ start. (next left : ℕ) → (st : Setting) × (view : BaseView) ×
         (before : Cluster) ×
-        StartsSaving (IsEngineSaverOf P.meaning) start.machines.items start.engine
+        StartsSaving (IsAnyMachineOf P.meaning) start.machines.items start.engine
         (store_view start.store) next left st view before) }
     ensures many { IfOk result (λ start. length start.machines.items < 65535) }
     ensures newest { IfOk result (λ start. start.store.newest + 1 < 2 ^ 32) }
@@ -327,10 +327,10 @@ fn serials_of<P: Program>(alloc: Global, whole: &Whole<P>) -> Result<Vec<u64>, T
 }
 
 /// Returns the same of each machine of the call.
-fn serials_in<P: Program>(alloc: Global, course: &InCourse<P>) -> Result<Vec<u64>, Trouble> {
+fn serials_in<P: Program>(alloc: Global, trace: &InTrace<P>) -> Result<Vec<u64>, Trouble> {
     let mut serials = Vec::new(alloc);
-    for m in 0..course.machines() {
-        serials.push(course.machine(MachineNo(m as u16)).serial())?;
+    for m in 0..trace.machines() {
+        serials.push(trace.machine(MachineNo(m as u16)).serial())?;
     }
     Ok(serials)
 }
@@ -341,14 +341,14 @@ pub fn begin_call<P: Program>(
     beginning: &Beginning<'_, P>,
     base: &Base,
     failures: &[FailureAt],
-) -> Result<InCourse<P>, Trouble> {
+) -> Result<InTrace<P>, Trouble> {
     let tickets = beginning.tickets;
     if tickets >= MOST_TICKETS {
         return Err(Trouble::Because("there are too many tickets"));
     }
     let failures = Vec::from_slice(alloc, failures)?;
     let start = first_start(alloc, beginning, base)?;
-    Ok(Course::open(
+    Ok(Trace::open(
         alloc,
         start.machines,
         start.engine,
@@ -364,13 +364,13 @@ pub fn call_again<P: Program>(
     alloc: Global,
     beginning: &Beginning<'_, P>,
     base: &Base,
-    course: &mut InCourse<P>,
+    trace: &mut InTrace<P>,
 ) -> Result<(), Trouble> {
-    let serials = serials_in(alloc, course)?;
+    let serials = serials_in(alloc, trace)?;
     let start = start_from(alloc, beginning, base, &serials)?;
-    if start.machines.len() != course.machines() {
+    if start.machines.len() != trace.machines() {
         drop(start);
         return Err(Trouble::Because("there is another count of machines"));
     }
-    Ok(course.recover(alloc, start.machines, start.engine, start.store)?)
+    Ok(trace.recover(alloc, start.machines, start.engine, start.store)?)
 }

@@ -2,7 +2,7 @@
 ghost use Rattle.std.specs.Prelude.{◌<◌, IsTrue, length};
 
 use crate::answers::is_answer;
-use crate::beginnings::{Beginning, InCourse, begin_call, call_again};
+use crate::beginnings::{Beginning, InTrace, begin_call, call_again};
 use crate::looks::{Look, add_kept, look_of};
 use crate::plans::machine_of;
 use crate::playing::{add_outcome, add_trouble};
@@ -12,7 +12,7 @@ use crate::restarts::missing_of;
 use crate::scenes::{Kept, first_kept};
 use crate::trouble::Trouble;
 use cluster_step::drive::{Pause, drive};
-use cluster_step::trace::{Course, Event, Local, SavingMachine};
+use cluster_step::trace::{Event, Local, SavingMachine, Trace};
 use gl_base::{Base, FailureAt, MachineNo, Refused};
 use recovery::restarts::{base_behind, count_failed};
 use scenario_lines::{Line, Page, is_remark};
@@ -27,7 +27,7 @@ const MOST_PAUSES: u32 = 1000000;
 #[derive(Drop)]
 struct Call<'a, P: Program> {
     beginning: &'a Beginning<'a, P>,
-    course: InCourse<P>,
+    trace: InTrace<P>,
     kept: Kept,
     recoveries: u64,
     pause: Option<Pause>,
@@ -57,10 +57,10 @@ fn opened_call<'a, P: Program>(
     failures: &[FailureAt],
 ) -> Result<Call<'a, P>, Trouble> {
     let mut kept = first_kept(alloc, beginning)?;
-    match opened_course(alloc, beginning, &mut kept, failures) {
-        Ok(course) => Ok(Call {
+    match opened_trace(alloc, beginning, &mut kept, failures) {
+        Ok(trace) => Ok(Call {
             beginning,
-            course,
+            trace,
             kept,
             recoveries: 0,
             pause: None,
@@ -73,12 +73,12 @@ fn opened_call<'a, P: Program>(
 }
 
 /// Opens the call from what the store tells.
-fn opened_course<P: Program>(
+fn opened_trace<P: Program>(
     alloc: Global,
     beginning: &Beginning<'_, P>,
     kept: &mut Kept,
     failures: &[FailureAt],
-) -> Result<InCourse<P>, Trouble> {
+) -> Result<InTrace<P>, Trouble> {
     let base = newest_base(alloc, beginning, kept)?;
     let outcome = begin_call(alloc, beginning, &base, failures);
     drop(base);
@@ -88,12 +88,12 @@ fn opened_course<P: Program>(
 /// Goes on from pause to pause until the call has ended, or its budget is spent.
 fn go_on<R: Wait + AllocGlobal, P: Program>(rt: &R, call: &mut Call<'_, P>) -> Result<(), Trouble> {
     for _ in 0..MOST_PAUSES {
-        let pause = drive(rt, &mut call.course, true)?;
+        let pause = drive(rt, &mut call.trace, true)?;
         call.pause = Some(pause);
         match pause {
             Pause::Ended | Pause::Quiet | Pause::Full | Pause::Spent => return Ok(()),
             Pause::Record(_) => {
-                take_due(rt.alloc(), call.beginning, &mut call.kept, &mut call.course)?;
+                take_due(rt.alloc(), call.beginning, &mut call.kept, &mut call.trace)?;
             }
             Pause::Reached(_) => go_back(rt.alloc(), call)?,
         }
@@ -106,25 +106,25 @@ fn take_due<P: Program, M: SavingMachine>(
     alloc: Global,
     beginning: &Beginning<'_, P>,
     kept: &mut Kept,
-    course: &mut Course<M>,
+    trace: &mut Trace<M>,
 ) -> Result<(), Trouble> {
-    let record = match course.record(alloc) {
+    let record = match trace.record(alloc) {
         Ok(record) => record,
         Err(Refused::NotNow) => return Err(Trouble::Because("no record is due")),
         Err(Refused::NoMemory) => return Err(Trouble::Because("memory is missing")),
     };
     let number = record.number;
     keep_record(alloc, beginning, kept, record)?;
-    course.acknowledge(number);
+    trace.acknowledge(number);
     Ok(())
 }
 
 /// Lets each machine fail that has reached the count of a failure, and all go back to the newest
 /// snapshot.
 fn go_back<P: Program>(alloc: Global, call: &mut Call<'_, P>) -> Result<(), Trouble> {
-    let failures = failures_of(alloc, &mut call.course, call.beginning.machines)?;
+    let failures = failures_of(alloc, &mut call.trace, call.beginning.machines)?;
     let base = base_behind_failures(alloc, call, failures)?;
-    let outcome = call_again(alloc, call.beginning, &base, &mut call.course);
+    let outcome = call_again(alloc, call.beginning, &base, &mut call.trace);
     drop(base);
     call.recoveries = call.recoveries.saturating_add(1);
     outcome
@@ -136,7 +136,7 @@ fn base_behind_failures<P: Program>(
     call: &mut Call<'_, P>,
     failures: usize,
 ) -> Result<Base, Trouble> {
-    call.kept.lacking = missing_of(alloc, &call.kept, failures, call.course.next())?;
+    call.kept.lacking = missing_of(alloc, &call.kept, failures, call.trace.next())?;
     let base = newest_base(alloc, call.beginning, &mut call.kept)?;
     Ok(base_behind(base, &call.kept.lacking)?)
 }
@@ -144,34 +144,34 @@ fn base_behind_failures<P: Program>(
 /// Lets each machine fail that has reached the count of a failure. Returns how many do.
 fn failures_of<M: SavingMachine>(
     alloc: Global,
-    course: &mut Course<M>,
+    trace: &mut Trace<M>,
     machines: u16,
 ) -> Result<usize, Trouble> {
     let mut flags = Vec::new(alloc);
     for m in 0..machines {
-        flags.push(fails(course, MachineNo(m))?)?;
+        flags.push(fails(trace, MachineNo(m))?)?;
     }
     Ok(count_failed(&flags))
 }
 
 /// Returns whether the call has this machine.
-fn has_machine<M: SavingMachine>(course: &Course<M>, at: MachineNo) -> bool
-    ensures { IsTrue result → at.0 < length course.now.now.machines.items }
+fn has_machine<M: SavingMachine>(trace: &Trace<M>, at: MachineNo) -> bool
+    ensures { IsTrue result → at.0 < length trace.now.now.machines.items }
 {
-    (at.0 as usize) < course.machines()
+    (at.0 as usize) < trace.machines()
 }
 
 /// Lets the machine fail if it has reached the count of a failure, which makes no update any more;
 /// and no other may. Returns whether it has failed.
-fn fails<M: SavingMachine>(course: &mut Course<M>, at: MachineNo) -> Result<bool, Trouble> {
-    let reached = has_machine(course, at) && course.has_reached(at);
-    if reached && is_updated(course, at) {
+fn fails<M: SavingMachine>(trace: &mut Trace<M>, at: MachineNo) -> Result<bool, Trouble> {
+    let reached = has_machine(trace, at) && trace.has_reached(at);
+    if reached && is_updated(trace, at) {
         return Err(Trouble::Because("an update is made behind the count of a failure"));
     }
-    if is_let_fail(course, at) != reached {
+    if is_let_fail(trace, at) != reached {
         return Err(Trouble::Because("a machine fails at another time"));
     }
-    if has_machine(course, at) && course.has_failed(at) == reached {
+    if has_machine(trace, at) && trace.has_failed(at) == reached {
         Ok(reached)
     } else {
         Err(Trouble::Because("a machine has failed at another time"))
@@ -179,13 +179,13 @@ fn fails<M: SavingMachine>(course: &mut Course<M>, at: MachineNo) -> Result<bool
 }
 
 /// Returns whether the machine makes an update at once.
-fn is_updated<M: SavingMachine>(course: &mut Course<M>, at: MachineNo) -> bool {
-    has_machine(course, at) && course.update_at_once(at).is_ok()
+fn is_updated<M: SavingMachine>(trace: &mut Trace<M>, at: MachineNo) -> bool {
+    has_machine(trace, at) && trace.update_at_once(at).is_ok()
 }
 
 /// Returns whether the machine fails now.
-fn is_let_fail<M: SavingMachine>(course: &mut Course<M>, at: MachineNo) -> bool {
-    has_machine(course, at) && course.apply(Event::Local(Local::Fail(at))).is_ok()
+fn is_let_fail<M: SavingMachine>(trace: &mut Trace<M>, at: MachineNo) -> bool {
+    has_machine(trace, at) && trace.apply(Event::Local(Local::Fail(at))).is_ok()
 }
 
 /// Writes each line as it was seen.
@@ -231,9 +231,9 @@ fn add_seen<P: Program>(call: &Call<'_, P>, line: &Line<'_>, page: &mut Page) {
     match look_of(line.word) {
         Look::Pause => add_pause(call.pause, page),
         Look::Recoveries => page.add_numbers(&[call.recoveries]),
-        Look::Stored => page.add_numbers(&[call.course.coordinator().stored() as u64]),
-        Look::Left => page.add_numbers(&[call.course.left()]),
-        Look::Completed => add_completed(&call.course, machine_of(line.number(0)), page),
+        Look::Stored => page.add_numbers(&[call.trace.coordinator().stored() as u64]),
+        Look::Left => page.add_numbers(&[call.trace.left()]),
+        Look::Completed => add_completed(&call.trace, machine_of(line.number(0)), page),
         look => add_kept(call.beginning.graph, &call.kept, look, page),
     }
 }
@@ -248,9 +248,9 @@ fn add_pause(pause: Option<Pause>, page: &mut Page) {
 }
 
 /// Writes how many updates the machine has completed in the call.
-fn add_completed<M: SavingMachine>(course: &Course<M>, at: MachineNo, page: &mut Page) {
-    if has_machine(course, at) {
-        page.add_numbers(&[course.completed(at)]);
+fn add_completed<M: SavingMachine>(trace: &Trace<M>, at: MachineNo, page: &mut Page) {
+    if has_machine(trace, at) {
+        page.add_numbers(&[trace.completed(at)]);
     } else {
         page.add(" no such machine");
     }

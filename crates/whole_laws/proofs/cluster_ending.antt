@@ -9,7 +9,7 @@ pub mod Putting
 pub mod Growing
 pub mod Watching
 pub mod Finding
-pub mod Courses
+pub mod Traces
 pub mod Fronts
 pub mod Informing
 pub mod Reporting

@@ -9,7 +9,7 @@ pub mod Recording
 pub mod Merging
 pub mod Accounts
 pub mod Based
-pub mod Courses
+pub mod Traces
 pub mod Outside
 pub mod Sizing
 pub mod Asking

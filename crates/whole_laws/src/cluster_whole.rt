@@ -4,8 +4,8 @@
 mod laws;
 
 pub use laws::{
-    clusters_begin_whole, counts_are_balanced, courses_stay_whole, cuts_go_on, due_steps_are_over,
-    events_are_moves, events_keep_clusters_whole, events_keep_windows, events_log_for_snapshots,
-    fronts_may_be_received, grants_never_happen, records_hold_cuts, whole_clusters_are_serial,
-    whole_clusters_exclude, whole_updates_are_fresh,
+    clusters_begin_whole, counts_are_balanced, cuts_go_on, due_steps_are_over, events_are_moves,
+    events_keep_clusters_whole, events_keep_windows, events_log_for_snapshots,
+    fronts_may_be_received, grants_never_happen, records_hold_cuts, traces_stay_whole,
+    whole_clusters_are_serial, whole_clusters_exclude, whole_updates_are_fresh,
 };

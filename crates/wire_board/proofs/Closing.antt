@@ -60,7 +60,7 @@ numbered_at peers k (x ∷ xs) (suc a) d e low =
 
 -- ---- the opening
 
-module _ {M : Type 0} (stands : Setting → ℕ → Machine → M → Type 0) (failures : List FailureAt) (done : List ℕ) (n : ℕ) (p : Parts M) (links : List LinkView) (is : AreOpening n p links) where
+module _ {M : Type 0} (represents : Setting → ℕ → Machine → M → Type 0) (failures : List FailureAt) (done : List ℕ) (n : ℕ) (p : Parts M) (links : List LinkView) (is : AreOpening n p links) where
   abbrev lead : Seated M
   lead = Lead (record { number = n; coordinator = p.coordinator })
 
@@ -80,13 +80,13 @@ module _ {M : Type 0} (stands : Setting → ℕ → Machine → M → Type 0) (f
       (last_or front lead a z at)
 
   -- the parts stand for the clusters for which they stood
-  pub stood_so : (st : Setting) (c : Cluster) → IsSavingClusterOf stands st p c → IsSavingClusterOf (StandsOwing stands) st (standing_parts n p) c
+  pub stood_so : (st : Setting) (c : Cluster) → IsSavingClusterOf represents st p c → IsSavingClusterOf (StandsOwing represents) st (standing_parts n p) c
   stood_so st c of = record {
     many = length_numbered (suc n) 0 p.machines.items ∙ of.many;
     small = of.small;
     links = of.links;
     machines = λ a d low.
-        subst (StandsOwing stands st a (c.machine a))
+        subst (StandsOwing represents st a (c.machine a))
         (sym (numbered_at (suc n) 0 p.machines.items a d d.member.machine (subst (λ (k : ℕ). a < k) (sym of.many) low)))
         (record { before = c.machine a; here = of.machines a d.member.machine low; done = refl });
     flags = of.flags;
@@ -125,11 +125,11 @@ module _ {M : Type 0} (stands : Setting → ℕ → Machine → M → Type 0) (f
     runs = is.runs;
   }
 
-  pub opens_board : StandsForSaving stands p → HasBeenLed stands failures done (standing_parts n p) n (front ++ lead ∷ []) links p.next p.left
+  pub opens_board : StandsForSaving represents p → HasBeenLed represents failures done (standing_parts n p) n (front ++ lead ∷ []) links p.next p.left
   opens_board there = record {
     now = standing_parts n p;
     held = opens_held;
-    goes = goes_nowhere (StandsOwing stands) failures done (standing_parts n p);
+    goes = goes_nowhere (StandsOwing represents) failures done (standing_parts n p);
     setting = there.0;
     cluster = there.1;
     snaps = there.2;

@@ -13,8 +13,8 @@ use Rattle.cluster_laws.specs.cluster_model.Clusters.{with_machine}
 use Rattle.cluster_laws.specs.cluster_model.Events as law
 use Rattle.cluster_laws.specs.cluster_model.Machines.{completed}
 use Rattle.cluster_laws.proofs.interior_scopes.Walking.{set_at-twice}
-use Rattle.cluster_step.proofs.clusters.AtOnceRuns.{at_once_course, no_recoveries}
-use Rattle.cluster_step.proofs.clusters.Goings.{going_course}
+use Rattle.cluster_step.proofs.clusters.AtOnceRuns.{at_once_trace, no_recoveries}
+use Rattle.cluster_step.proofs.clusters.Goings.{going_trace}
 use Rattle.cluster_step.proofs.clusters.Making.{IsInTurn, does_so, event_of, law_may, left_behind, machine_here, machines_set, many_set, next_behind, runs_set, still_runs}
 use Rattle.cluster_step.specs.clusters.AtOnce.{events_at_once}
 use Rattle.cluster_step.specs.clusters.Clusters.{IsGoing}
@@ -23,7 +23,7 @@ use Rattle.coordinator.specs.machine_api.Promises.{Admit, CanUpdate, Deed, Grant
 use Rattle.coordinator.specs.machine_api.Promises as deed
 use Rattle.whole_laws.specs.cluster_whole.Whole.{IsNoRecovery}
 use Rattle.call_laws.specs.whole_calls.Following.{FollowJob, has_reached, reaches}
-use Rattle.wire_board.proofs.Goings.{courses_append, done_stays, follows_append, others_append}
+use Rattle.wire_board.proofs.Goings.{traces_append, done_stays, follows_append, others_append}
 use Rattle.wire_board.specs.Freeing.{IsFree}
 use Rattle.wire_board.specs.Going.{Cluster, FailureAt, GoesOn, IsSavingClusterOf, IsSnapSetting, Machine, Parts, Setting}
 use Rattle.wire_board.specs.Standings.{AtOnce, CanBeginAtOnce, WorksTo, HasComeTo, IsOwn, Member, Standing, StandsOwing, Update, at_rest}
@@ -96,7 +96,7 @@ module _ (st : Setting) (c : Cluster) (a : ℕ) (runs : c.stopped ≡ false) (lo
   awake_with m fine = record { machine = low; runs = ap (λ (n : Machine). n.failed) (there m) ∙ fine }
 
   own_run : (deeds : List Deed) → AllByRecursion IsOwn deeds → (m after : Machine) → m.failed ≡ false → AreDone st a deeds m after
-      → law.IsCourse st (with_machine c a m) (map (event_of a) deeds) (with_machine c a after)
+      → law.IsTrace st (with_machine c a m) (map (event_of a) deeds) (with_machine c a after)
   own_run [] own m after fine done = ap (with_machine c a) done
   own_run (d ∷ deeds) own m after fine done =
       let now : Cluster = with_machine c a m in
@@ -109,31 +109,31 @@ module _ (st : Setting) (c : Cluster) (a : ℕ) (runs : c.stopped ≡ false) (lo
       ∙ again m one
       in (
         (runs, law_may st now a (awake_with m fine) d (own_turn now d own.0) may),
-        subst (λ (s : Setting). law.IsCourse s (law.after_event st now (event_of a d)) (map (event_of a) deeds) (with_machine c a after)) (sym (own_setting st a d own.0))
-            (subst (λ (k : Cluster). law.IsCourse st k (map (event_of a) deeds) (with_machine c a after)) (sym step)
+        subst (λ (s : Setting). law.IsTrace s (law.after_event st now (event_of a d)) (map (event_of a) deeds) (with_machine c a after)) (sym (own_setting st a d own.0))
+            (subst (λ (k : Cluster). law.IsTrace st k (map (event_of a) deeds) (with_machine c a after)) (sym step)
             (own_run deeds own.1 one after (still_runs st a d m ∙ fine) done.1)),
       )
 
   -- from the cluster as it is
-  own_course : (deeds : List Deed) → AllByRecursion IsOwn deeds → (after : Machine) → (c.machine a).failed ≡ false → AreDone st a deeds (c.machine a) after
-      → law.IsCourse st c (map (event_of a) deeds) (with_machine c a after)
-  own_course deeds own after fine done =
-      subst (λ (k : Cluster). law.IsCourse st k (map (event_of a) deeds) (with_machine c a after)) (machine_same c a) (own_run deeds own (c.machine a) after fine done)
+  own_trace : (deeds : List Deed) → AllByRecursion IsOwn deeds → (after : Machine) → (c.machine a).failed ≡ false → AreDone st a deeds (c.machine a) after
+      → law.IsTrace st c (map (event_of a) deeds) (with_machine c a after)
+  own_trace deeds own after fine done =
+      subst (λ (k : Cluster). law.IsTrace st k (map (event_of a) deeds) (with_machine c a after)) (machine_same c a) (own_run deeds own (c.machine a) after fine done)
 
 -- ---- the parts that stand for it
 
 -- machine a is another, and tickets are others
-pub machine_put : {X : Type 0} (stands : Setting → ℕ → Machine → X → Type 0) (st : Setting) (setting : IsSnapSetting st) (p : Parts X) (c : Cluster) (of : IsSavingClusterOf stands st p c)
-    (a : ℕ) (low : a < st.machines) (y : X) (m : Machine) → stands st a m y → m.failed ≡ (c.machine a).failed
+pub machine_put : {X : Type 0} (represents : Setting → ℕ → Machine → X → Type 0) (st : Setting) (setting : IsSnapSetting st) (p : Parts X) (c : Cluster) (of : IsSavingClusterOf represents st p c)
+    (a : ℕ) (low : a < st.machines) (y : X) (m : Machine) → represents st a m y → m.failed ≡ (c.machine a).failed
     → (next left n k : ℕ) → n ≡ next → k ≡ left → next + left < 2 ^ 64 → IsGoing st (record (with_machine c a m) { next = n; left = k })
-    → IsSavingClusterOf stands st (record p { machines = with_item p.machines a y; next = next; left = left }) (record (with_machine c a m) { next = n; left = k })
-machine_put stands st setting p c of a low y m here runs next left n k next_is left_is few going = record {
-  many = many_set stands st setting p c of a low y m here runs;
+    → IsSavingClusterOf represents st (record p { machines = with_item p.machines a y; next = next; left = left }) (record (with_machine c a m) { next = n; left = k })
+machine_put represents st setting p c of a low y m here runs next left n k next_is left_is few going = record {
+  many = many_set represents st setting p c of a low y m here runs;
   small = of.small;
   links = of.links;
-  machines = machines_set stands st setting p c of a low y m here runs;
+  machines = machines_set represents st setting p c of a low y m here runs;
   flags = of.flags;
-  runs = runs_set stands st setting p c of a low y m here runs;
+  runs = runs_set represents st setting p c of a low y m here runs;
   told = of.told;
   calls = of.calls;
   reports = of.reports;
@@ -156,9 +156,9 @@ owing_at_once member v ticket = record { member = member; owed = AtOnce v ticket
 still_few : (next left : ℕ) → 0 < left → next + left < 2 ^ 64 → suc next + pred left < 2 ^ 64
 still_few next left some few = omega arith
 
-module _ {M : Type 0} (stands : Setting → ℕ → Machine → M → Type 0) (failures : List FailureAt) (done : List ℕ) (p : Parts (Standing M)) (a : ℕ) (inside : a < length p.machines.items)
-    (awake : slice_index_or p.failed.items a false ≡ false) (going_on : p.stopped ≡ false) (x : Standing M) (read : x ≡ slice_index_or p.machines.items a x) (z : Member M) (come : HasComeTo stands x z.machine) where
-  module _ (st : Setting) (c : Cluster) (setting : IsSnapSetting st) (of : IsSavingClusterOf (StandsOwing stands) st p c) where
+module _ {M : Type 0} (represents : Setting → ℕ → Machine → M → Type 0) (failures : List FailureAt) (done : List ℕ) (p : Parts (Standing M)) (a : ℕ) (inside : a < length p.machines.items)
+    (awake : slice_index_or p.failed.items a false ≡ false) (going_on : p.stopped ≡ false) (x : Standing M) (read : x ≡ slice_index_or p.machines.items a x) (z : Member M) (come : HasComeTo represents x z.machine) where
+  module _ (st : Setting) (c : Cluster) (setting : IsSnapSetting st) (of : IsSavingClusterOf (StandsOwing represents) st p c) where
     low : a < st.machines
     low = subst (λ (n : ℕ). a < n) of.many inside
 
@@ -168,42 +168,42 @@ module _ {M : Type 0} (stands : Setting → ℕ → Machine → M → Type 0) (f
     fine : (c.machine a).failed ≡ false
     fine = of.runs a low ∙ awake
 
-    to_now : WorksTo stands z.machine st a (c.machine a)
-    to_now = come st a (c.machine a) setting (machine_here (StandsOwing stands) st setting p c of a low x read)
+    to_now : WorksTo represents z.machine st a (c.machine a)
+    to_now = come st a (c.machine a) setting (machine_here (StandsOwing represents) st setting p c of a low x read)
 
   -- It owes nothing.
-  pub comes_goes : GoesOn (StandsOwing stands) failures done p (record p { machines = with_item p.machines a (at_rest z) })
+  pub comes_goes : GoesOn (StandsOwing represents) failures done p (record p { machines = with_item p.machines a (at_rest z) })
   comes_goes st c setting of =
-      let to : WorksTo stands z.machine st a (c.machine a) = to_now st c setting of in
+      let to : WorksTo represents z.machine st a (c.machine a) = to_now st c setting of in
       let events : List law.Event = map (event_of a) to.deeds in
       let later : Cluster = with_machine c a to.after in
-      let course : law.IsCourse st c events later = own_course st c a (runs st c setting of) (low st c setting of) to.deeds to.own to.after (fine st c setting of) to.done in
+      let trace : law.IsTrace st c events later = own_trace st c a (runs st c setting of) (low st c setting of) to.deeds to.own to.after (fine st c setting of) to.done in
       let others : AllByRecursion IsNoRecovery events = own_others a to.deeds to.own in
       record {
         events = events;
         others = others;
         later = later;
-        course = course;
+        trace = trace;
         follows = λ counts. own_follows st failures a to.deeds to.own c;
-        code = machine_put (StandsOwing stands) st setting p c of a (low st c setting of) (at_rest z) to.after (record { before = to.after; here = to.here; done = refl })
-            (done_runs st a to.deeds (c.machine a) to.after to.done) p.next p.left c.next c.left of.next of.left of.few (going_course st setting events others c later of.going course);
+        code = machine_put (StandsOwing represents) st setting p c of a (low st c setting of) (at_rest z) to.after (record { before = to.after; here = to.here; done = refl })
+            (done_runs st a to.deeds (c.machine a) to.after to.done) p.next p.left c.next c.left of.next of.left of.few (going_trace st setting events others c later of.going trace);
       }
 
   -- It begins an update under the next ticket.
-  module _ (some : 0 < p.left) (free : IsFree stands failures done z.machine a) where
-    free_there : (st : Setting) (c : Cluster) → IsSnapSetting st → (m : Machine) → stands st a m z.machine → (with_machine c a m).machine a ≡ m → m.done ≡ slice_index_or done a 0
+  module _ (some : 0 < p.left) (free : IsFree represents failures done z.machine a) where
+    free_there : (st : Setting) (c : Cluster) → IsSnapSetting st → (m : Machine) → represents st a m z.machine → (with_machine c a m).machine a ≡ m → m.done ≡ slice_index_or done a 0
         → has_reached failures (with_machine c a m) a ≡ false
     free_there st c setting m here at_a counts =
         ap (λ (n : Machine). reaches failures a n.done (completed n)) at_a ∙ free st m setting here counts
 
-    pub begins_goes : (s : ScopeId) → CanUpdate stands z.machine s
-        → GoesOn (StandsOwing stands) failures done p (record p { machines = with_item p.machines a (owing z s p.next); next = suc p.next; left = pred p.left })
+    pub begins_goes : (s : ScopeId) → CanUpdate represents z.machine s
+        → GoesOn (StandsOwing represents) failures done p (record p { machines = with_item p.machines a (owing z s p.next); next = suc p.next; left = pred p.left })
     begins_goes s can st c setting of =
-        let to : WorksTo stands z.machine st a (c.machine a) = to_now st c setting of in
+        let to : WorksTo represents z.machine st a (c.machine a) = to_now st c setting of in
         let events : List law.Event = map (event_of a) to.deeds in
         let led : Cluster = with_machine c a to.after in
         let at_a : led.machine a ≡ to.after = set_at-same c.machine a to.after in
-        let course : law.IsCourse st c events led = own_course st c a (runs st c setting of) (low st c setting of) to.deeds to.own to.after (fine st c setting of) to.done in
+        let trace : law.IsTrace st c events led = own_trace st c a (runs st c setting of) (low st c setting of) to.deeds to.own to.after (fine st c setting of) to.done in
         let others : AllByRecursion IsNoRecovery events = own_others a to.deeds to.own in
         let still : to.after.failed ≡ (c.machine a).failed = done_runs st a to.deeds (c.machine a) to.after to.done in
         let d : Deed = deed.Update s c.next in
@@ -218,34 +218,34 @@ module _ {M : Type 0} (stands : Setting → ℕ → Machine → M → Type 0) (f
         ∙ ap (λ (n : Machine). law.draws_ticket (with_machine led a (does st a d n))) at_a
         ∙ (λ i. law.draws_ticket (record c { machine = λ b. set_at-twice c.machine a to.after made b i }))
         in
-        let last : law.IsCourse st led (law.Update s ∷ []) later = ((runs st c setting of, law_may st led a awake_there d (left, refl) may_there), sym step) in
-        let all : law.IsCourse st c (events ++ law.Update s ∷ []) later = courses_append events (law.Update s ∷ []) others st c led later course last in
+        let last : law.IsTrace st led (law.Update s ∷ []) later = ((runs st c setting of, law_may st led a awake_there d (left, refl) may_there), sym step) in
+        let all : law.IsTrace st c (events ++ law.Update s ∷ []) later = traces_append events (law.Update s ∷ []) others st c led later trace last in
         let other : IsNoRecovery (law.Update s) = λ base is. cc in
         let all_others : AllByRecursion IsNoRecovery (events ++ law.Update s ∷ []) = others_append events (law.Update s ∷ []) others (other, tt) in
         record {
           events = events ++ law.Update s ∷ [];
           others = all_others;
           later = later;
-          course = all;
-          follows = λ counts. follows_append failures events (law.Update s ∷ []) others st c led course (own_follows st failures a to.deeds to.own c) (
+          trace = all;
+          follows = λ counts. follows_append failures events (law.Update s ∷ []) others st c led trace (own_follows st failures a to.deeds to.own c) (
             ap (has_reached failures led) may.0
-                ∙ free_there st c setting to.after to.here at_a (ap (λ (n : Machine). n.done) (sym at_a) ∙ done_stays events others st c led course a ∙ counts a (low st c setting of)),
+                ∙ free_there st c setting to.after to.here at_a (ap (λ (n : Machine). n.done) (sym at_a) ∙ done_stays events others st c led trace a ∙ counts a (low st c setting of)),
             tt,
           );
-          code = machine_put (StandsOwing stands) st setting p c of a (low st c setting of) (owing z s p.next) made
+          code = machine_put (StandsOwing represents) st setting p c of a (low st c setting of) (owing z s p.next) made
               (record { before = to.after; here = to.here; done = subst (λ (n : ℕ). AreDone st a (deed.Update s n ∷ []) to.after made) of.next (may, refl) })
               (still_runs st a d to.after ∙ still) (suc p.next) (pred p.left) (suc c.next) (pred c.left) (ap suc of.next) (ap pred of.left) (still_few p.next p.left some of.few)
-              (going_course st setting (events ++ law.Update s ∷ []) all_others c later of.going all);
+              (going_trace st setting (events ++ law.Update s ∷ []) all_others c later of.going all);
         }
 
-    pub begins_at_once_goes : (v : Vertex) → CanBeginAtOnce stands z.machine v.0
-        → GoesOn (StandsOwing stands) failures done p (record p { machines = with_item p.machines a (owing_at_once z v p.next); next = suc p.next; left = pred p.left })
+    pub begins_at_once_goes : (v : Vertex) → CanBeginAtOnce represents z.machine v.0
+        → GoesOn (StandsOwing represents) failures done p (record p { machines = with_item p.machines a (owing_at_once z v p.next); next = suc p.next; left = pred p.left })
     begins_at_once_goes v can st c setting of =
-        let to : WorksTo stands z.machine st a (c.machine a) = to_now st c setting of in
+        let to : WorksTo represents z.machine st a (c.machine a) = to_now st c setting of in
         let events : List law.Event = map (event_of a) to.deeds in
         let led : Cluster = with_machine c a to.after in
         let at_a : led.machine a ≡ to.after = set_at-same c.machine a to.after in
-        let course : law.IsCourse st c events led = own_course st c a (runs st c setting of) (low st c setting of) to.deeds to.own to.after (fine st c setting of) to.done in
+        let trace : law.IsTrace st c events led = own_trace st c a (runs st c setting of) (low st c setting of) to.deeds to.own to.after (fine st c setting of) to.done in
         let others : AllByRecursion IsNoRecovery events = own_others a to.deeds to.own in
         let still : to.after.failed ≡ (c.machine a).failed = done_runs st a to.deeds (c.machine a) to.after to.done in
         let left : 0 < c.left = subst (λ (n : ℕ). 0 < n) (sym of.left) some in
@@ -258,22 +258,22 @@ module _ {M : Type 0} (stands : Setting → ℕ → Machine → M → Type 0) (f
         let more : List law.Event = events_at_once st a v.0 (led.machine a) in
         let later : Cluster = record (with_machine c a made) { next = suc c.next; left = pred c.left } in
         let same : law.draws_ticket (with_machine led a made) ≡ later = λ i. law.draws_ticket (record c { machine = λ b. set_at-twice c.machine a to.after made b i }) in
-        let last : law.IsCourse st led more later =
-        subst (law.IsCourse st led more) same (at_once_course st led a (runs st c setting of) (low st c setting of) left awake_there v.0 made done_there)
+        let last : law.IsTrace st led more later =
+        subst (law.IsTrace st led more) same (at_once_trace st led a (runs st c setting of) (low st c setting of) left awake_there v.0 made done_there)
         in
         let more_others : AllByRecursion IsNoRecovery more = no_recoveries st a v.0 (led.machine a) in
-        let all : law.IsCourse st c (events ++ more) later = courses_append events more others st c led later course last in
+        let all : law.IsTrace st c (events ++ more) later = traces_append events more others st c led later trace last in
         let all_others : AllByRecursion IsNoRecovery (events ++ more) = others_append events more others more_others in
         record {
           events = events ++ more;
           others = all_others;
           later = later;
-          course = all;
-          follows = λ counts. follows_append failures events more others st c led course (own_follows st failures a to.deeds to.own c)
+          trace = all;
+          follows = λ counts. follows_append failures events more others st c led trace (own_follows st failures a to.deeds to.own c)
               (follow_at_once st failures a led v.0
-              (free_there st c setting to.after to.here at_a (ap (λ (n : Machine). n.done) (sym at_a) ∙ done_stays events others st c led course a ∙ counts a (low st c setting of))));
-          code = machine_put (StandsOwing stands) st setting p c of a (low st c setting of) (owing_at_once z v p.next) made
+              (free_there st c setting to.after to.here at_a (ap (λ (n : Machine). n.done) (sym at_a) ∙ done_stays events others st c led trace a ∙ counts a (low st c setting of))));
+          code = machine_put (StandsOwing represents) st setting p c of a (low st c setting of) (owing_at_once z v p.next) made
               (record { before = to.after; here = to.here; done = subst (λ (n : ℕ). AreDone st a (deeds_at_once st a v.0 n to.after) to.after made) of.next can_now.1 })
               (done_runs st a (deeds_at_once st a v.0 c.next to.after) to.after made can_now.1 ∙ still) (suc p.next) (pred p.left) (suc c.next) (pred c.left) (ap suc of.next) (ap pred of.left)
-              (still_few p.next p.left some of.few) (going_course st setting (events ++ more) all_others c later of.going all);
+              (still_few p.next p.left some of.few) (going_trace st setting (events ++ more) all_others c later of.going all);
         }

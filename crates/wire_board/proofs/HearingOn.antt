@@ -5,7 +5,7 @@ use Rattle.cluster_laws.proofs.cluster_core.Basics.{set_at-same}
 use Rattle.cluster_laws.specs.cluster_core.Messages as core
 use Rattle.cluster_laws.specs.cluster_model.Events as law
 use Rattle.cluster_laws.specs.cluster_model.Working.{hands, prompt, receives}
-use Rattle.cluster_step.proofs.clusters.Goings.{going_course}
+use Rattle.cluster_step.proofs.clusters.Goings.{going_trace}
 use Rattle.coordinator.specs.machine_api.Promises.{HasReceived, IsFirstFrom, MayReceiveFirst, MessageView, OfEach, SendsItsFirst, StandsStill, message_view, told_by}
 use Rattle.coordinator.specs.machine_api.Told.{message_read}
 use Rattle.wire_board.proofs.Messages.{at, at_link, at_machine, at_same, deliveries, deliveries_others, hands_again, hands_same, hears_run}
@@ -17,78 +17,78 @@ receives_snoc : (st : Setting) (a : ℕ) (told : List core.Message) (one : core.
 receives_snoc st a [] one m = refl
 receives_snoc st a (first ∷ told) one m = receives_snoc st a told one (prompt st a (receives st a first m))
 
-module _ {M : Type 0} (stands : Setting → ℕ → Machine → M → Type 0) (p a : ℕ) (y now : M) (heard : List MessageView) (message : Message) (rest : List MessageView)
-    (has : HasHeardAll stands y p a heard (message_view message ∷ rest) now) where
+module _ {M : Type 0} (represents : Setting → ℕ → Machine → M → Type 0) (p a : ℕ) (y now : M) (heard : List MessageView) (message : Message) (rest : List MessageView)
+    (has : HasHeardAll represents y p a heard (message_view message ∷ rest) now) where
   -- behind the first ones
-  module _ (st : Setting) (c : Cluster) (hearing : IsHearing stands y p a (heard ++ message_view message ∷ rest) st c) where
+  module _ (st : Setting) (c : Cluster) (hearing : IsHearing represents y p a (heard ++ message_view message ∷ rest) st c) where
     abbrev there : Cluster
     there = at c a p a (receives_all st a (map message_read heard) (c.machine a)) (told_by message ∷ map message_read rest)
 
-    first_there : IsFirstFrom stands now p message st there a
+    first_there : IsFirstFrom represents now p message st there a
     first_there =
         let words : List core.Message = map message_read heard in
         let left : List core.Message = told_by message ∷ map message_read rest in
         let on : c.link p a ≡ words ++ left = hearing.told ∙ map-append message_read heard (message_view message ∷ rest) in
         let start : at c a p a (c.machine a) (words ++ left) ≡ c = ap (at c a p a (c.machine a)) (sym on) ∙ at_same c a p a in
         let m : Machine = receives_all st a words (c.machine a) in
-        let course : law.IsCourse st c (deliveries p a words) (at c a p a m left) =
-        subst (λ (k : Cluster). law.IsCourse st k (deliveries p a words) (at c a p a m left)) start
+        let trace : law.IsTrace st c (deliveries p a words) (at c a p a m left) =
+        subst (λ (k : Cluster). law.IsTrace st k (deliveries p a words) (at c a p a m left)) start
         (hears_run st c p a hearing.runs hearing.from hearing.awake.machine words (c.machine a) left hearing.awake.runs)
         in
         record {
           setting = hearing.setting;
-          going = going_course st hearing.setting (deliveries p a words) (deliveries_others p a words) c (at c a p a m left) hearing.going course;
+          going = going_trace st hearing.setting (deliveries p a words) (deliveries_others p a words) c (at c a p a m left) hearing.going trace;
           machine = hearing.awake.machine;
-          here = subst (λ (n : Machine). stands st a n now) (sym (at_machine c a p a m left)) (has st c hearing);
+          here = subst (λ (n : Machine). represents st a n now) (sym (at_machine c a p a m left)) (has st c hearing);
           behind = map message_read rest;
           first = at_link c a p a m left;
         }
 
-  pub next_may : CanHear stands y p a (heard ++ message_view message ∷ rest) → MayReceiveFirst stands now p message
+  pub next_may : CanHear represents y p a (heard ++ message_view message ∷ rest) → MayReceiveFirst represents now p message
   next_may can = (can.0, there can.0 can.1 can.2, a, first_there can.0 can.1 can.2)
 
-  pub next_heard : (z : M) → HasReceived stands now p message z → HasHeardAll stands y p a (heard ++ message_view message ∷ []) rest z
+  pub next_heard : (z : M) → HasReceived represents now p message z → HasHeardAll represents y p a (heard ++ message_view message ∷ []) rest z
   next_heard z received st c all =
-      let hearing : IsHearing stands y p a (heard ++ message_view message ∷ rest) st c =
-      subst (λ (ms : List MessageView). IsHearing stands y p a ms st c) (append_assoc heard (message_view message ∷ []) rest) all
+      let hearing : IsHearing represents y p a (heard ++ message_view message ∷ rest) st c =
+      subst (λ (ms : List MessageView). IsHearing represents y p a ms st c) (append_assoc heard (message_view message ∷ []) rest) all
       in
       let m : Machine = receives_all st a (map message_read heard) (c.machine a) in
-      let got : stands st a (prompt st a (receives st a (told_by message) ((there st c hearing).machine a))) z = received st (there st c hearing) a (first_there st c hearing) in
-      let here : stands st a (prompt st a (receives st a (told_by message) m)) z =
-      subst (λ (n : Machine). stands st a (prompt st a (receives st a (told_by message) n)) z) (at_machine c a p a m (told_by message ∷ map message_read rest)) got
+      let got : represents st a (prompt st a (receives st a (told_by message) ((there st c hearing).machine a))) z = received st (there st c hearing) a (first_there st c hearing) in
+      let here : represents st a (prompt st a (receives st a (told_by message) m)) z =
+      subst (λ (n : Machine). represents st a (prompt st a (receives st a (told_by message) n)) z) (at_machine c a p a m (told_by message ∷ map message_read rest)) got
       in
-      subst (λ (n : Machine). stands st a n z)
+      subst (λ (n : Machine). represents st a n z)
       (sym (ap (λ (ms : List core.Message). receives_all st a ms (c.machine a)) (map-append message_read heard (message_view message ∷ [])) ∙ receives_snoc st a (map message_read heard) (told_by message) (c.machine a))) here
 
   -- it is what it was
-  pub still_heard : (z : M) → StandsStill stands now z → HasHeardAll stands y p a heard (message_view message ∷ rest) z
+  pub still_heard : (z : M) → StandsStill represents now z → HasHeardAll represents y p a heard (message_view message ∷ rest) z
   still_heard z still st c hearing = still st a (receives_all st a (map message_read heard) (c.machine a)) hearing.setting (has st c hearing)
 
-pub none_heard : {M : Type 0} (stands : Setting → ℕ → Machine → M → Type 0) (p a : ℕ) (y : M) (rest : List MessageView) → HasHeardAll stands y p a [] rest y
-none_heard stands p a y rest st c hearing = hearing.here
+pub none_heard : {M : Type 0} (represents : Setting → ℕ → Machine → M → Type 0) (p a : ℕ) (y : M) (rest : List MessageView) → HasHeardAll represents y p a [] rest y
+none_heard represents p a y rest st c hearing = hearing.here
 
 -- ---- telling
 
-module _ {M : Type 0} (stands : Setting → ℕ → Machine → M → Type 0) (q : ℕ) (y : M) where
-  pub none_told : OfEach stands y (HasToldAll stands q [] y)
-  none_told st a m setting here = record { behind = m.part.out q; first = refl; after = subst (λ (n : Machine). stands st a n y) (sym (hands_same q m (m.part.out q) refl)) here }
+module _ {M : Type 0} (represents : Setting → ℕ → Machine → M → Type 0) (q : ℕ) (y : M) where
+  pub none_told : OfEach represents y (HasToldAll represents q [] y)
+  none_told st a m setting here = record { behind = m.part.out q; first = refl; after = subst (λ (n : Machine). represents st a n y) (sym (hands_same q m (m.part.out q) refl)) here }
 
-  module _ (told : List MessageView) (now : M) (has : OfEach stands y (HasToldAll stands q told now)) where
-    pub next_told : (message : Message) (z : M) → OfEach stands now (SendsItsFirst stands q message z) → OfEach stands y (HasToldAll stands q (told ++ message_view message ∷ []) z)
+  module _ (told : List MessageView) (now : M) (has : OfEach represents y (HasToldAll represents q told now)) where
+    pub next_told : (message : Message) (z : M) → OfEach represents now (SendsItsFirst represents q message z) → OfEach represents y (HasToldAll represents q (told ++ message_view message ∷ []) z)
     next_told message z sends st a m setting here =
-        let one : HasToldAll stands q told now st a m = has st a m setting here in
+        let one : HasToldAll represents q told now st a m = has st a m setting here in
         let n : Machine = hands q one.behind m in
-        let two : SendsItsFirst stands q message z st a n = sends st a n setting one.after in
+        let two : SendsItsFirst represents q message z st a n = sends st a n setting one.after in
         let behind_is : one.behind ≡ told_by message ∷ two.behind = sym (set_at-same m.part.out q one.behind) ∙ two.first in
         record {
           behind = two.behind;
           first =
               one.first ∙ ap (λ (ms : List core.Message). map message_read told ++ ms) behind_is
               ∙ sym (ap (λ (ms : List core.Message). ms ++ two.behind) (map-append message_read told (message_view message ∷ [])) ∙ append_assoc (map message_read told) (told_by message ∷ []) two.behind);
-          after = subst (λ (k : Machine). stands st a k z) (hands_again q m one.behind two.behind) two.after;
+          after = subst (λ (k : Machine). represents st a k z) (hands_again q m one.behind two.behind) two.after;
         }
 
-    pub still_told : (z : M) → StandsStill stands now z → OfEach stands y (HasToldAll stands q told z)
+    pub still_told : (z : M) → StandsStill represents now z → OfEach represents y (HasToldAll represents q told z)
     still_told z still st a m setting here =
-        let one : HasToldAll stands q told now st a m = has st a m setting here in
+        let one : HasToldAll represents q told now st a m = has st a m setting here in
         record { behind = one.behind; first = one.first; after = still st a (hands q one.behind m) setting one.after }

@@ -20,12 +20,12 @@ module _ {M : Type 0} (lead : Leading) (others : List (Seated M)) where
       → me' ≡ (view (with_first (Lead lead) me.0.parts) None me.0.raised me.0.found, []) → Leads lead others me'
   leads_given me me' p i q r h is = record { was = lead; rests = rests_given me me' p (Lead lead) others i q r h is; number = refl; stays = λ st c of. of }
 
-  module _ (stands : Setting → ℕ → Machine → M → Type 0) where
+  module _ (represents : Setting → ℕ → Machine → M → Type 0) where
     pub lead_has_taken : (me me' : Sat (Seated M) LinkView) (p : Seated M) (i : ℕ) (q : LinkView) (found : ℕ × ℕ) → Rests me p others
-        → me' ≡ (view (with_first (Lead lead) me.0.parts) (Some (i, q)) me.0.raised found, (i, q) ∷ []) → Learns stands (Lead lead) i q → HasTakenLead stands lead others i me'
+        → me' ≡ (view (with_first (Lead lead) me.0.parts) (Some (i, q)) me.0.raised found, (i, q) ∷ []) → Learns represents (Lead lead) i q → HasTakenLead represents lead others i me'
     lead_has_taken me me' p i q found r is learns = record { queue = q; holds = holds_taken me me' p (Lead lead) others i q found r is; learns = learns }
 
-    module _ (me me' : Sat (Seated M) LinkView) (i : ℕ) (new was : LinkView) (t : HasTakenLead stands lead others i me) (is : me' ≡ (me.0, (i, new) ∷ [])) (there : me.1 ≡ (i, was) ∷ []) where
+    module _ (me me' : Sat (Seated M) LinkView) (i : ℕ) (new was : LinkView) (t : HasTakenLead represents lead others i me) (is : me' ≡ (me.0, (i, new) ∷ [])) (there : me.1 ≡ (i, was) ∷ []) where
       pub lead_holds_now : HoldsLink me' (Lead lead) others i t.queue new
       lead_holds_now = holds_another me me' (Lead lead) others i t.queue t.queue new t.holds is
 

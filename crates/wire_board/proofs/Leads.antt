@@ -76,9 +76,9 @@ module _ {M : Type 0} (n : ℕ) (p : Parts (Standing M)) (parts : List (Seated M
       runs = h.runs;
     }
 
-module _ {M : Type 0} (stands : Setting → ℕ → Machine → M → Type 0) (failures : List FailureAt) (done : List ℕ) (opening : Parts (Standing M)) (n : ℕ) where
+module _ {M : Type 0} (represents : Setting → ℕ → Machine → M → Type 0) (failures : List FailureAt) (done : List ℕ) (opening : Parts (Standing M)) (n : ℕ) where
   abbrev Led : List (Seated M) → List LinkView → ℕ → ℕ → Type 0
-  Led = HasBeenLed stands failures done opening n
+  Led = HasBeenLed represents failures done opening n
 
   module _ (was lead : Leading) (number : lead.number ≡ was.number) where
     -- it is what it was
@@ -87,8 +87,8 @@ module _ {M : Type 0} (stands : Setting → ℕ → Machine → M → Type 0) (f
         let h = led.held in
         let last : was.number ≡ n = is_last n led.now parts links next left h was.number was at in
         let is : IsLeadOf n led.now (Lead was) = lead_is n led.now parts links next left h was.number was at in
-        led_on stands failures done opening n parts links next left led _
-        (stays_goes stands failures done led.now h.runs lead.coordinator (subst (λ (c : CoordinatorView). StaysCoordinator c lead.coordinator) (sym is.1) stays))
+        led_on represents failures done opening n parts links next left led _
+        (stays_goes represents failures done led.now h.runs lead.coordinator (subst (λ (c : CoordinatorView). StaysCoordinator c lead.coordinator) (sym is.1) stays))
         (slice_set parts was.number (Lead lead)) links next left (held_lead n led.now parts links next left h lead (number ∙ last) was.number last)
 
     -- it has done something by itself
@@ -100,8 +100,8 @@ module _ {M : Type 0} (stands : Setting → ℕ → Machine → M → Type 0) (f
           let h = led.held in
           let last : was.number ≡ n = is_last n led.now parts links next left h was.number was at in
           let is : IsLeadOf n led.now (Lead was) = lead_is n led.now parts links next left h was.number was at in
-          led_on stands failures done opening n parts links next left led _
-          (led_goes stands failures done led.now h.runs lead.coordinator e other follows leads effect (subst (MayLead e) (sym is.1) may)
+          led_on represents failures done opening n parts links next left led _
+          (led_goes represents failures done led.now h.runs lead.coordinator e other follows leads effect (subst (MayLead e) (sym is.1) may)
           (subst (λ (c : CoordinatorView). (st : Setting) (k : Coordinator) → IsCoordinatorOf st c k → IsCoordinatorOf st lead.coordinator (leads st k)) (sym is.1) has))
           (slice_set parts was.number (Lead lead)) links next left (held_lead n led.now parts links next left h lead (number ∙ last) was.number last)
 
@@ -115,16 +115,16 @@ module _ {M : Type 0} (stands : Setting → ℕ → Machine → M → Type 0) (f
           let is : IsLeadOf n led.now (Lead was) = lead_is n led.now parts links next left h was.number was at in
           let low_a : a < n = subst (λ (k : ℕ). a < k) last low in
           let there_q : q ≡ link_between led.now.links n a =
-          same_link stands failures done opening n parts links next left led (suc n) n a refl (self_under n) (under a n low_a) q (ap (λ (k : ℕ). get_elem? links (link_no (suc k) k a)) (sym last) ∙ on)
+          same_link represents failures done opening n parts links next left led (suc n) n a refl (self_under n) (under a n low_a) q (ap (λ (k : ℕ). get_elem? links (link_no (suc k) k a)) (sym last) ∙ on)
           in
-          let goes = call_told_goes stands failures done led.now h.runs lead.coordinator n h.many a low_a r message (are ∙ ap (λ (l : LinkView). l.messages ++ message_view message ∷ []) there_q)
+          let goes = call_told_goes represents failures done led.now h.runs lead.coordinator n h.many a low_a r message (are ∙ ap (λ (l : LinkView). l.messages ++ message_view message ∷ []) there_q)
           (subst (λ (c : CoordinatorView). HasHandedOver c lead.coordinator a (Some message)) (sym is.1) handed)
           in
           subst (λ (k : ℕ). Led (slice_set parts was.number (Lead lead)) (slice_set links (link_no (suc k) k a) r) next left) (sym last)
-          (led_on stands failures done opening n parts links next left led _ goes (slice_set parts was.number (Lead lead)) (slice_set links (link_no (suc n) n a) r) next left
+          (led_on represents failures done opening n parts links next left led _ goes (slice_set parts was.number (Lead lead)) (slice_set links (link_no (suc n) n a) r) next left
           (held_link n (record led.now { coordinator = lead.coordinator }) (slice_set parts was.number (Lead lead)) links next left
           (held_lead n led.now parts links next left h lead (number ∙ last) was.number last) n a (self_under n) (under a n low_a) r
-          (has_link led.now.links (suc n) n a (have_all stands failures done opening n parts links next left led) (self_under n) (under a n low_a))))
+          (has_link led.now.links (suc n) n a (have_all represents failures done opening n parts links next left led) (self_under n) (under a n low_a))))
 
       pub carries_report_heard : (message : Message) → q.messages ≡ message_view message ∷ r.messages → HasTakenReport was.coordinator lead.coordinator a (message_view message)
           → CarriesLink number_of Led (link_no (suc was.number) a was.number) (Lead was) q (Lead lead) r
@@ -134,16 +134,16 @@ module _ {M : Type 0} (stands : Setting → ℕ → Machine → M → Type 0) (f
           let is : IsLeadOf n led.now (Lead was) = lead_is n led.now parts links next left h was.number was at in
           let low_a : a < n = subst (λ (k : ℕ). a < k) last low in
           let there_q : q ≡ link_between led.now.links a n =
-          same_link stands failures done opening n parts links next left led (suc n) a n refl (under a n low_a) (self_under n) q (ap (λ (k : ℕ). get_elem? links (link_no (suc k) a k)) (sym last) ∙ on)
+          same_link represents failures done opening n parts links next left led (suc n) a n refl (under a n low_a) (self_under n) q (ap (λ (k : ℕ). get_elem? links (link_no (suc k) a k)) (sym last) ∙ on)
           in
-          let goes = report_heard_goes stands failures done led.now h.runs lead.coordinator n h.many a low_a r message (ap (λ (l : LinkView). l.messages) (sym there_q) ∙ were)
+          let goes = report_heard_goes represents failures done led.now h.runs lead.coordinator n h.many a low_a r message (ap (λ (l : LinkView). l.messages) (sym there_q) ∙ were)
           (subst (λ (c : CoordinatorView). HasTakenReport c lead.coordinator a (message_view message)) (sym is.1) taken)
           in
           subst (λ (k : ℕ). Led (slice_set parts was.number (Lead lead)) (slice_set links (link_no (suc k) a k) r) next left) (sym last)
-          (led_on stands failures done opening n parts links next left led _ goes (slice_set parts was.number (Lead lead)) (slice_set links (link_no (suc n) a n) r) next left
+          (led_on represents failures done opening n parts links next left led _ goes (slice_set parts was.number (Lead lead)) (slice_set links (link_no (suc n) a n) r) next left
           (held_link n (record led.now { coordinator = lead.coordinator }) (slice_set parts was.number (Lead lead)) links next left
           (held_lead n led.now parts links next left h lead (number ∙ last) was.number last) a n (under a n low_a) (self_under n) r
-          (has_link led.now.links (suc n) a n (have_all stands failures done opening n parts links next left led) (under a n low_a) (self_under n))))
+          (has_link led.now.links (suc n) a n (have_all represents failures done opening n parts links next left led) (under a n low_a) (self_under n))))
 
       -- nothing has happened, but that there is other room on the link
       pub carries_no_call : r.messages ≡ q.messages → StaysCoordinator was.coordinator lead.coordinator → CarriesLink number_of Led (link_no (suc was.number) was.number a) (Lead was) q (Lead lead) r
@@ -153,16 +153,16 @@ module _ {M : Type 0} (stands : Setting → ℕ → Machine → M → Type 0) (f
           let is : IsLeadOf n led.now (Lead was) = lead_is n led.now parts links next left h was.number was at in
           let low_a : a < n = subst (λ (k : ℕ). a < k) last low in
           let there_q : q ≡ link_between led.now.links n a =
-          same_link stands failures done opening n parts links next left led (suc n) n a refl (self_under n) (under a n low_a) q (ap (λ (k : ℕ). get_elem? links (link_no (suc k) k a)) (sym last) ∙ on)
+          same_link represents failures done opening n parts links next left led (suc n) n a refl (self_under n) (under a n low_a) q (ap (λ (k : ℕ). get_elem? links (link_no (suc k) k a)) (sym last) ∙ on)
           in
-          let goes = stays_led_goes stands failures done led.now h.runs lead.coordinator n h.many n a (self_under n) (under a n low_a) r (same ∙ ap (λ (l : LinkView). l.messages) there_q)
+          let goes = stays_led_goes represents failures done led.now h.runs lead.coordinator n h.many n a (self_under n) (under a n low_a) r (same ∙ ap (λ (l : LinkView). l.messages) there_q)
           (subst (λ (c : CoordinatorView). StaysCoordinator c lead.coordinator) (sym is.1) stays)
           in
           subst (λ (k : ℕ). Led (slice_set parts was.number (Lead lead)) (slice_set links (link_no (suc k) k a) r) next left) (sym last)
-          (led_on stands failures done opening n parts links next left led _ goes (slice_set parts was.number (Lead lead)) (slice_set links (link_no (suc n) n a) r) next left
+          (led_on represents failures done opening n parts links next left led _ goes (slice_set parts was.number (Lead lead)) (slice_set links (link_no (suc n) n a) r) next left
           (held_link n (record led.now { coordinator = lead.coordinator }) (slice_set parts was.number (Lead lead)) links next left
           (held_lead n led.now parts links next left h lead (number ∙ last) was.number last) n a (self_under n) (under a n low_a) r
-          (has_link led.now.links (suc n) n a (have_all stands failures done opening n parts links next left led) (self_under n) (under a n low_a))))
+          (has_link led.now.links (suc n) n a (have_all represents failures done opening n parts links next left led) (self_under n) (under a n low_a))))
 
       pub carries_no_report : r.messages ≡ q.messages → StaysCoordinator was.coordinator lead.coordinator → CarriesLink number_of Led (link_no (suc was.number) a was.number) (Lead was) q (Lead lead) r
       carries_no_report same stays parts links next left at on led =
@@ -171,30 +171,30 @@ module _ {M : Type 0} (stands : Setting → ℕ → Machine → M → Type 0) (f
           let is : IsLeadOf n led.now (Lead was) = lead_is n led.now parts links next left h was.number was at in
           let low_a : a < n = subst (λ (k : ℕ). a < k) last low in
           let there_q : q ≡ link_between led.now.links a n =
-          same_link stands failures done opening n parts links next left led (suc n) a n refl (under a n low_a) (self_under n) q (ap (λ (k : ℕ). get_elem? links (link_no (suc k) a k)) (sym last) ∙ on)
+          same_link represents failures done opening n parts links next left led (suc n) a n refl (under a n low_a) (self_under n) q (ap (λ (k : ℕ). get_elem? links (link_no (suc k) a k)) (sym last) ∙ on)
           in
-          let goes = stays_led_goes stands failures done led.now h.runs lead.coordinator n h.many a n (under a n low_a) (self_under n) r (same ∙ ap (λ (l : LinkView). l.messages) there_q)
+          let goes = stays_led_goes represents failures done led.now h.runs lead.coordinator n h.many a n (under a n low_a) (self_under n) r (same ∙ ap (λ (l : LinkView). l.messages) there_q)
           (subst (λ (c : CoordinatorView). StaysCoordinator c lead.coordinator) (sym is.1) stays)
           in
           subst (λ (k : ℕ). Led (slice_set parts was.number (Lead lead)) (slice_set links (link_no (suc k) a k) r) next left) (sym last)
-          (led_on stands failures done opening n parts links next left led _ goes (slice_set parts was.number (Lead lead)) (slice_set links (link_no (suc n) a n) r) next left
+          (led_on represents failures done opening n parts links next left led _ goes (slice_set parts was.number (Lead lead)) (slice_set links (link_no (suc n) a n) r) next left
           (held_link n (record led.now { coordinator = lead.coordinator }) (slice_set parts was.number (Lead lead)) links next left
           (held_lead n led.now parts links next left h lead (number ∙ last) was.number last) a n (under a n low_a) (self_under n) r
-          (has_link led.now.links (suc n) a n (have_all stands failures done opening n parts links next left led) (under a n low_a) (self_under n))))
+          (has_link led.now.links (suc n) a n (have_all represents failures done opening n parts links next left led) (under a n low_a) (self_under n))))
 
   -- what it learns of a link that it takes
-  pub learnt_lead : (lead : Leading) (i : ℕ) → Learnt number_of Led (Learns stands) (Lead lead) i
+  pub learnt_lead : (lead : Leading) (i : ℕ) → Learnt number_of Led (Learns represents) (Lead lead) i
   learnt_lead lead i parts links next left q at on led a message rest low i_is first =
       let h = led.held in
       let last : lead.number ≡ n = is_last n led.now parts links next left h lead.number lead at in
       let is : IsLeadOf n led.now (Lead lead) = lead_is n led.now parts links next left h lead.number lead at in
       let low_a : a < n = subst (λ (k : ℕ). a < k) last low in
       let there_q : q ≡ link_between led.now.links a n =
-      same_link stands failures done opening n parts links next left led (suc n) a n refl (under a n low_a) (self_under n) q
+      same_link represents failures done opening n parts links next left led (suc n) a n refl (under a n low_a) (self_under n) q
       (ap (λ (k : ℕ). get_elem? links (link_no (suc k) a k)) (sym last) ∙ ap (get_elem? links) (sym i_is) ∙ on)
       in
       let read : Some (message_view message) ≡ slice_get (link_between led.now.links a n).messages 0 = ap (λ (ms : List MessageView). slice_get ms 0) (sym first) ∙ ap (λ (l : LinkView). slice_get l.messages 0) there_q in
       let from : MachineNo = record { 0 = a } in
       let end : MachineNo = record { 0 = n } in
       subst (λ (c : CoordinatorView). MayReport c a (message_view message)) is.1
-      (may_report (StandsOwing stands) led.now h.runs from (subst (λ (k : ℕ). a < k) (sym h.many) low_a) end (sym h.many) message read (led.setting, led.cluster, led.snaps, led.stood))
+      (may_report (StandsOwing represents) led.now h.runs from (subst (λ (k : ℕ). a < k) (sym h.many) low_a) end (sym h.many) message read (led.setting, led.cluster, led.snaps, led.stood))

@@ -12,7 +12,7 @@ use Rattle.cluster_laws.specs.cluster_model.Clusters.{with_machine, with_message
 use Rattle.cluster_laws.specs.cluster_model.Events as law
 use Rattle.cluster_laws.specs.cluster_model.Working.{hands, prompt, receives}
 use Rattle.cluster_laws.proofs.interior_scopes.Walking.{set_at-twice}
-use Rattle.cluster_step.proofs.clusters.Goings.{going_course}
+use Rattle.cluster_step.proofs.clusters.Goings.{going_trace}
 use Rattle.cluster_step.proofs.clusters.LinkLemmas.{has_link}
 use Rattle.cluster_step.proofs.clusters.Lines.{ChangesLine, line_kept, told_set}
 use Rattle.cluster_step.proofs.clusters.Making.{machine_here, machines_set, many_set, runs_set}
@@ -72,18 +72,18 @@ module _ (c : Cluster) (a p q : ℕ) where
 
 -- ---- the parts that stand for it
 
-pub passage_put : {X : Type 0} (stands : Setting → ℕ → Machine → X → Type 0) (st : Setting) (setting : IsSnapSetting st) (v : Parts X) (c : Cluster) (of : IsSavingClusterOf stands st v c)
-    (a : ℕ) (low : a < st.machines) (y : X) (m : Machine) → stands st a m y → m.failed ≡ (c.machine a).failed
+pub passage_put : {X : Type 0} (represents : Setting → ℕ → Machine → X → Type 0) (st : Setting) (setting : IsSnapSetting st) (v : Parts X) (c : Cluster) (of : IsSavingClusterOf represents st v c)
+    (a : ℕ) (low : a < st.machines) (y : X) (m : Machine) → represents st a m y → m.failed ≡ (c.machine a).failed
     → (p q : ℕ) → p < st.machines → q < st.machines → (links : List (List LinkView)) → HaveLinks links (suc st.machines) → (messages : List MessageView) → ChangesLine v.links links p q messages
     → (told : List Message) → map message_read messages ≡ told → IsGoing st (at c a p q m told)
-    → IsSavingClusterOf stands st (record v { machines = with_item v.machines a y; links = links }) (at c a p q m told)
-passage_put stands st setting v c of a low y m here runs p q low_p low_q links have messages changes told read going = record {
-  many = many_set stands st setting v c of a low y m here runs;
+    → IsSavingClusterOf represents st (record v { machines = with_item v.machines a y; links = links }) (at c a p q m told)
+passage_put represents st setting v c of a low y m here runs p q low_p low_q links have messages changes told read going = record {
+  many = many_set represents st setting v c of a low y m here runs;
   small = of.small;
   links = have;
-  machines = machines_set stands st setting v c of a low y m here runs;
+  machines = machines_set represents st setting v c of a low y m here runs;
   flags = of.flags;
-  runs = runs_set stands st setting v c of a low y m here runs;
+  runs = runs_set represents st setting v c of a low y m here runs;
   told = told_set changes c.link told st.machines read of.told;
   calls = λ b low_b. subst (λ (ms : List MessageView). AreCalls ms (c.calls b)) (sym (line_kept changes st.machines b (inl (more_not p st.machines low_p)))) (of.calls b low_b);
   reports = λ b low_b. subst (λ (ms : List MessageView). AreReports ms (c.reports b)) (sym (line_kept changes b st.machines (inr (more_not q st.machines low_q)))) (of.reports b low_b);
@@ -118,7 +118,7 @@ receives_run st a (one ∷ told) m = receives_run st a told (prompt st a (receiv
 
 module _ (st : Setting) (c : Cluster) (p a : ℕ) (runs : c.stopped ≡ false) (low_p : p < st.machines) (low : a < st.machines) where
   pub hears_run : (told : List Message) (m : Machine) (behind : List Message) → m.failed ≡ false
-      → law.IsCourse st (at c a p a m (told ++ behind)) (deliveries p a told) (at c a p a (receives_all st a told m) behind)
+      → law.IsTrace st (at c a p a m (told ++ behind)) (deliveries p a told) (at c a p a (receives_all st a told m) behind)
   hears_run [] m behind fine = refl
   hears_run (one ∷ told) m behind fine =
       let now : Cluster = at c a p a m (one ∷ (told ++ behind)) in
@@ -137,45 +137,45 @@ module _ (st : Setting) (c : Cluster) (p a : ℕ) (runs : c.stopped ≡ false) (
             record { message = one; behind = told ++ behind; first = first },
           ),
         ),
-        subst (λ (k : Cluster). law.IsCourse st k (deliveries p a told) (at c a p a (receives_all st a told next) behind)) (sym step) (hears_run told next behind fine),
+        subst (λ (k : Cluster). law.IsTrace st k (deliveries p a told) (at c a p a (receives_all st a told next) behind)) (sym step) (hears_run told next behind fine),
       )
 
 -- the machine hears the first messages of the link
-pub hears_goes : {M : Type 0} (stands : Setting → ℕ → Machine → M → Type 0) (failures : List FailureAt) (done : List ℕ) (v : Parts (Standing M)) (p a : ℕ)
+pub hears_goes : {M : Type 0} (represents : Setting → ℕ → Machine → M → Type 0) (failures : List FailureAt) (done : List ℕ) (v : Parts (Standing M)) (p a : ℕ)
     → p < length v.machines.items → a < length v.machines.items → slice_index_or v.failed.items a false ≡ false → v.stopped ≡ false
     → (y z : Member M) → at_rest y ≡ slice_index_or v.machines.items a (at_rest y) → (heard : List MessageView) (l : LinkView)
-    → (link_between v.links p a).messages ≡ heard ++ l.messages → HasHeardAll stands y.machine p a heard l.messages z.machine
-    → GoesOn (StandsOwing stands) failures done v (record v { machines = with_item v.machines a (at_rest z); links = with_link_between v.links p a l })
-hears_goes stands failures done v p a inside_p inside awake going_on y z read heard l were has st c setting of =
+    → (link_between v.links p a).messages ≡ heard ++ l.messages → HasHeardAll represents y.machine p a heard l.messages z.machine
+    → GoesOn (StandsOwing represents) failures done v (record v { machines = with_item v.machines a (at_rest z); links = with_link_between v.links p a l })
+hears_goes represents failures done v p a inside_p inside awake going_on y z read heard l were has st c setting of =
     let low_p : p < st.machines = subst (λ (n : ℕ). p < n) of.many inside_p in
     let low : a < st.machines = subst (λ (n : ℕ). a < n) of.many inside in
     let runs : c.stopped ≡ false = of.stopped ∙ going_on in
     let fine : (c.machine a).failed ≡ false = of.runs a low ∙ awake in
-    let standing : StandsOwing stands st a (c.machine a) (at_rest y) = machine_here (StandsOwing stands) st setting v c of a low (at_rest y) read in
-    let here : stands st a (c.machine a) y.machine = subst (λ (n : Machine). stands st a n y.machine) (sym standing.done) standing.here in
+    let standing : StandsOwing represents st a (c.machine a) (at_rest y) = machine_here (StandsOwing represents) st setting v c of a low (at_rest y) read in
+    let here : represents st a (c.machine a) y.machine = subst (λ (n : Machine). represents st a n y.machine) (sym standing.done) standing.here in
     let told : List Message = map message_read heard in
     let behind : List Message = map message_read l.messages in
     let on : c.link p a ≡ map message_read (heard ++ l.messages) = of.told p a low_p low ∙ ap (map message_read) were in
     let first : c.link p a ≡ told ++ behind = on ∙ map-append message_read heard l.messages in
-    let hearing : IsHearing stands y.machine p a (heard ++ l.messages) st c =
+    let hearing : IsHearing represents y.machine p a (heard ++ l.messages) st c =
     record { setting = setting; going = of.going; runs = runs; awake = record { machine = low; runs = fine }; from = low_p; here = here; told = on }
     in
     let m : Machine = receives_all st a told (c.machine a) in
     let later : Cluster = at c a p a m behind in
     let start : at c a p a (c.machine a) (told ++ behind) ≡ c = ap (at c a p a (c.machine a)) (sym first) ∙ at_same c a p a in
-    let course : law.IsCourse st c (deliveries p a told) later =
-    subst (λ (k : Cluster). law.IsCourse st k (deliveries p a told) later) start (hears_run st c p a runs low_p low told (c.machine a) behind fine)
+    let trace : law.IsTrace st c (deliveries p a told) later =
+    subst (λ (k : Cluster). law.IsTrace st k (deliveries p a told) later) start (hears_run st c p a runs low_p low told (c.machine a) behind fine)
     in
     let link = has_link v.links (suc st.machines) p a of.links (under p st.machines low_p) (under a st.machines low) in
     record {
       events = deliveries p a told;
       others = deliveries_others p a told;
       later = later;
-      course = course;
+      trace = trace;
       follows = λ counts. deliveries_follow st failures p a told c;
-      code = passage_put (StandsOwing stands) st setting v c of a low (at_rest z) m (record { before = m; here = has st c hearing; done = refl }) (receives_run st a told (c.machine a)) p a low_p low
+      code = passage_put (StandsOwing represents) st setting v c of a low (at_rest z) m (record { before = m; here = has st c hearing; done = refl }) (receives_run st a told (c.machine a)) p a low_p low
           (with_link_between v.links p a l) (have_put v.links p a link l (suc st.machines) of.links) l.messages (line_put v.links p a link l) behind refl
-          (going_course st setting (deliveries p a told) (deliveries_others p a told) c later of.going course);
+          (going_trace st setting (deliveries p a told) (deliveries_others p a told) c later of.going trace);
     }
   where
     under : (x n : ℕ) → x < n → x < suc n
@@ -209,7 +209,7 @@ hands_again q m one other = λ i. record m { part = record m.part { out = λ b. 
 
 module _ (st : Setting) (c : Cluster) (a q : ℕ) (runs : c.stopped ≡ false) (low : a < st.machines) (low_q : q < st.machines) where
   tells_run : (told : List Message) (m : Machine) (behind sent : List Message) → m.failed ≡ false → m.part.out q ≡ told ++ behind
-      → law.IsCourse st (at c a a q m sent) (sendings a q told) (at c a a q (hands q behind m) (sent ++ told))
+      → law.IsTrace st (at c a a q m sent) (sendings a q told) (at c a a q (hands q behind m) (sent ++ told))
   tells_run [] m behind sent fine waits = (λ i. at c a a q (hands_same q m behind waits i) (append-nil sent i))
   tells_run (one ∷ told) m behind sent fine waits =
       let now : Cluster = at c a a q m sent in
@@ -225,44 +225,44 @@ module _ (st : Setting) (c : Cluster) (a q : ℕ) (runs : c.stopped ≡ false) (
       λ i. at c a a q (hands_again q m (told ++ behind) behind i) (append_assoc sent (one ∷ []) told i)
       in (
         (runs, (record { machine = low; runs = ap (λ (n : Machine). n.failed) same ∙ fine }, low_q, record { message = one; behind = told ++ behind; first = first })),
-        subst (λ (k : Cluster). law.IsCourse st k (sendings a q told) (at c a a q (hands q behind m) (sent ++ one ∷ told))) (sym step)
-            (subst (law.IsCourse st (at c a a q next (sent ++ one ∷ [])) (sendings a q told)) last
+        subst (λ (k : Cluster). law.IsTrace st k (sendings a q told) (at c a a q (hands q behind m) (sent ++ one ∷ told))) (sym step)
+            (subst (law.IsTrace st (at c a a q next (sent ++ one ∷ [])) (sendings a q told)) last
             (tells_run told next behind (sent ++ one ∷ []) fine (set_at-same m.part.out q (told ++ behind)))),
       )
 
 -- the machine tells the first messages that wait
-pub tells_goes : {M : Type 0} (stands : Setting → ℕ → Machine → M → Type 0) (failures : List FailureAt) (done : List ℕ) (v : Parts (Standing M)) (a q : ℕ)
+pub tells_goes : {M : Type 0} (represents : Setting → ℕ → Machine → M → Type 0) (failures : List FailureAt) (done : List ℕ) (v : Parts (Standing M)) (a q : ℕ)
     → a < length v.machines.items → q < length v.machines.items → slice_index_or v.failed.items a false ≡ false → v.stopped ≡ false
     → (y z : Member M) → at_rest y ≡ slice_index_or v.machines.items a (at_rest y) → (told : List MessageView) (l : LinkView)
-    → l.messages ≡ (link_between v.links a q).messages ++ told → OfEach stands y.machine (HasToldAll stands q told z.machine)
-    → GoesOn (StandsOwing stands) failures done v (record v { machines = with_item v.machines a (at_rest z); links = with_link_between v.links a q l })
-tells_goes stands failures done v a q inside inside_q awake going_on y z read told l are has st c setting of =
+    → l.messages ≡ (link_between v.links a q).messages ++ told → OfEach represents y.machine (HasToldAll represents q told z.machine)
+    → GoesOn (StandsOwing represents) failures done v (record v { machines = with_item v.machines a (at_rest z); links = with_link_between v.links a q l })
+tells_goes represents failures done v a q inside inside_q awake going_on y z read told l are has st c setting of =
     let low_q : q < st.machines = subst (λ (n : ℕ). q < n) of.many inside_q in
     let low : a < st.machines = subst (λ (n : ℕ). a < n) of.many inside in
     let runs : c.stopped ≡ false = of.stopped ∙ going_on in
     let fine : (c.machine a).failed ≡ false = of.runs a low ∙ awake in
-    let standing : StandsOwing stands st a (c.machine a) (at_rest y) = machine_here (StandsOwing stands) st setting v c of a low (at_rest y) read in
-    let here : stands st a (c.machine a) y.machine = subst (λ (n : Machine). stands st a n y.machine) (sym standing.done) standing.here in
-    let one : HasToldAll stands q told z.machine st a (c.machine a) = has st a (c.machine a) setting here in
+    let standing : StandsOwing represents st a (c.machine a) (at_rest y) = machine_here (StandsOwing represents) st setting v c of a low (at_rest y) read in
+    let here : represents st a (c.machine a) y.machine = subst (λ (n : Machine). represents st a n y.machine) (sym standing.done) standing.here in
+    let one : HasToldAll represents q told z.machine st a (c.machine a) = has st a (c.machine a) setting here in
     let words : List Message = map message_read told in
     let m : Machine = hands q one.behind (c.machine a) in
     let later : Cluster = at c a a q m (c.link a q ++ words) in
     let read_all : map message_read l.messages ≡ c.link a q ++ words =
     ap (map message_read) are ∙ map-append message_read (link_between v.links a q).messages told ∙ ap (λ (ms : List Message). ms ++ words) (sym (of.told a q low low_q))
     in
-    let course : law.IsCourse st c (sendings a q words) later =
-    subst (λ (k : Cluster). law.IsCourse st k (sendings a q words) later) (at_same c a a q) (tells_run st c a q runs low low_q words (c.machine a) one.behind (c.link a q) fine one.first)
+    let trace : law.IsTrace st c (sendings a q words) later =
+    subst (λ (k : Cluster). law.IsTrace st k (sendings a q words) later) (at_same c a a q) (tells_run st c a q runs low low_q words (c.machine a) one.behind (c.link a q) fine one.first)
     in
     let link = has_link v.links (suc st.machines) a q of.links (under a st.machines low) (under q st.machines low_q) in
     record {
       events = sendings a q words;
       others = sendings_others a q words;
       later = later;
-      course = course;
+      trace = trace;
       follows = λ counts. sendings_follow st failures a q words c;
-      code = passage_put (StandsOwing stands) st setting v c of a low (at_rest z) m (record { before = m; here = one.after; done = refl }) refl a q low low_q
+      code = passage_put (StandsOwing represents) st setting v c of a low (at_rest z) m (record { before = m; here = one.after; done = refl }) refl a q low low_q
           (with_link_between v.links a q l) (have_put v.links a q link l (suc st.machines) of.links) l.messages (line_put v.links a q link l) (c.link a q ++ words) read_all
-          (going_course st setting (sendings a q words) (sendings_others a q words) c later of.going course);
+          (going_trace st setting (sendings a q words) (sendings_others a q words) c later of.going trace);
     }
   where
     under : (x n : ℕ) → x < n → x < suc n

@@ -23,28 +23,28 @@ word_cases Out Bare = inr (λ e. cc)
 word_cases Out Laden = inr (λ e. cc)
 word_cases Out Out = inl refl
 
-module _ {M : Type 0} (stands : Setting → ℕ → Machine → M → Type 0) (member : Member M) where
-  pub sits_read : (me me' : Sat (Seated M) LinkView) (word number : ℕ) → Sits stands member me → me' ≡ (saw me.0 word number, me.1) → Sits stands member me'
+module _ {M : Type 0} (represents : Setting → ℕ → Machine → M → Type 0) (member : Member M) where
+  pub sits_read : (me me' : Sat (Seated M) LinkView) (word number : ℕ) → Sits represents member me → me' ≡ (saw me.0 word number, me.1) → Sits represents member me'
   sits_read me me' word number s is =
       record { was = s.was; rests = rests_on me me' (Node s.was) [] word number s.rests is; number = s.number; peers = s.peers; come = s.come }
 
   pub sits_given : (me me' : Sat (Seated M) LinkView) (p : Seated M) (i : ℕ) (q r : LinkView) → HoldsLink me p [] i q r
-      → me' ≡ (view (with_first (Node (at_rest member)) me.0.parts) None me.0.raised me.0.found, []) → Sits stands member me'
+      → me' ≡ (view (with_first (Node (at_rest member)) me.0.parts) None me.0.raised me.0.found, []) → Sits represents member me'
   sits_given me me' p i q r h is =
-      record { was = at_rest member; rests = rests_given me me' p (Node (at_rest member)) [] i q r h is; number = refl; peers = refl; come = come_nowhere stands member }
+      record { was = at_rest member; rests = rests_given me me' p (Node (at_rest member)) [] i q r h is; number = refl; peers = refl; come = come_nowhere represents member }
 
   -- its first part is another, from which it has come
   pub sits_changed : (me me' : Sat (Seated M) LinkView) (p : Seated M) (x : Standing M) (found : ℕ × ℕ) → Rests me p [] → me' ≡ (view (with_first (Node x) me.0.parts) None me.0.raised found, [])
-      → member.number ≡ x.member.number → member.peers ≡ x.member.peers → HasComeTo stands x member.machine → Sits stands member me'
+      → member.number ≡ x.member.number → member.peers ≡ x.member.peers → HasComeTo represents x member.machine → Sits represents member me'
   sits_changed me me' p x found r is number peers come =
       record { was = x; rests = rests_changed me me' p (Node x) [] found r is; number = number; peers = peers; come = come }
 
   pub has_taken : (me me' : Sat (Seated M) LinkView) (p : Seated M) (i : ℕ) (q : LinkView) (found : ℕ × ℕ) → Rests me p []
-      → me' ≡ (view (with_first (Node (at_rest member)) me.0.parts) (Some (i, q)) me.0.raised found, (i, q) ∷ []) → Learns stands (Node (at_rest member)) i q → HasTakenLink stands member i me'
+      → me' ≡ (view (with_first (Node (at_rest member)) me.0.parts) (Some (i, q)) me.0.raised found, (i, q) ∷ []) → Learns represents (Node (at_rest member)) i q → HasTakenLink represents member i me'
   has_taken me me' p i q found r is learns = record { queue = q; holds = holds_taken me me' p (Node (at_rest member)) [] i q found r is; learns = learns }
 
   -- what is put into the link that the seat has taken, and what was there
-  module _ (me me' : Sat (Seated M) LinkView) (i : ℕ) (new was : LinkView) (t : HasTakenLink stands member i me) (is : me' ≡ (me.0, (i, new) ∷ [])) (there : me.1 ≡ (i, was) ∷ []) where
+  module _ (me me' : Sat (Seated M) LinkView) (i : ℕ) (new was : LinkView) (t : HasTakenLink represents member i me) (is : me' ≡ (me.0, (i, new) ∷ [])) (there : me.1 ≡ (i, was) ∷ []) where
     pub holds_now : HoldsLink me' (Node (at_rest member)) [] i t.queue new
     holds_now = holds_another me me' (Node (at_rest member)) [] i t.queue t.queue new t.holds is
 

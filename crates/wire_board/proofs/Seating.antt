@@ -9,21 +9,21 @@ use Rattle.coordinator.specs.machine_api.Promises as deed
 use Rattle.wire_board.proofs.Deeds.{owing, owing_at_once}
 use Rattle.wire_board.specs.Standings.{ComesOn, WorksTo, HasComeTo, IsOwn, Machine, Member, Setting, Standing, at_rest}
 
-module _ {M : Type 0} (stands : Setting → ℕ → Machine → M → Type 0) where
-  pub come_nowhere : (y : Member M) → HasComeTo stands (at_rest y) y.machine
+module _ {M : Type 0} (represents : Setting → ℕ → Machine → M → Type 0) where
+  pub come_nowhere : (y : Member M) → HasComeTo represents (at_rest y) y.machine
   come_nowhere y st a m setting standing =
-      record { deeds = []; own = tt; after = m; done = refl; here = subst (λ (n : Machine). stands st a n y.machine) (sym standing.done) standing.here }
+      record { deeds = []; own = tt; after = m; done = refl; here = subst (λ (n : Machine). represents st a n y.machine) (sym standing.done) standing.here }
 
   -- it has made the update that it owed
-  pub come_updated : (y : Member M) (s : ScopeId) (ticket : ℕ) (z : M) → HasDone stands y.machine (deed.Update s ticket) z → HasComeTo stands (owing y s ticket) z
+  pub come_updated : (y : Member M) (s : ScopeId) (ticket : ℕ) (z : M) → HasDone represents y.machine (deed.Update s ticket) z → HasComeTo represents (owing y s ticket) z
   come_updated y s ticket z has st a m setting standing =
-      record { deeds = []; own = tt; after = m; done = refl; here = subst (λ (n : Machine). stands st a n z) (sym standing.done.1) ((has st a standing.before setting standing.here).1) }
+      record { deeds = []; own = tt; after = m; done = refl; here = subst (λ (n : Machine). represents st a n z) (sym standing.done.1) ((has st a standing.before setting standing.here).1) }
 
   done_same : (st : Setting) (a : ℕ) (deeds : List Deed) (m one other : Machine) → AreDone st a deeds m one → AreDone st a deeds m other → one ≡ other
   done_same st a [] m one other first second = first ∙ sym second
   done_same st a (d ∷ deeds) m one other first second = done_same st a deeds (does st a d m) one other first.1 second.1
 
-  pub come_updated_at_once : (y : Member M) (v : Vertex) (ticket : ℕ) (z : M) → HasUpdatedAtOnce stands y.machine v.0 ticket z → HasComeTo stands (owing_at_once y v ticket) z
+  pub come_updated_at_once : (y : Member M) (v : Vertex) (ticket : ℕ) (z : M) → HasUpdatedAtOnce represents y.machine v.0 ticket z → HasComeTo represents (owing_at_once y v ticket) z
   come_updated_at_once y v ticket z has st a m setting standing =
       let one = has st a standing.before setting standing.here in
       record {
@@ -31,7 +31,7 @@ module _ {M : Type 0} (stands : Setting → ℕ → Machine → M → Type 0) wh
         own = tt;
         after = m;
         done = refl;
-        here = subst (λ (n : Machine). stands st a n z) (done_same st a (deeds_at_once st a v.0 ticket standing.before) standing.before one.after m one.done standing.done) one.here;
+        here = subst (λ (n : Machine). represents st a n z) (done_same st a (deeds_at_once st a v.0 ticket standing.before) standing.before one.after m one.done standing.done) one.here;
       }
 
   -- ---- what a machine does by itself
@@ -44,10 +44,10 @@ module _ {M : Type 0} (stands : Setting → ℕ → Machine → M → Type 0) wh
   own_both [] ys first second = second
   own_both (d ∷ xs) ys first second = (first.0, own_both xs ys first.1 second)
 
-  pub come_on : (x : Standing M) (y z : M) → HasComeTo stands x y → ComesOn stands y z → HasComeTo stands x z
+  pub come_on : (x : Standing M) (y z : M) → HasComeTo represents x y → ComesOn represents y z → HasComeTo represents x z
   come_on x y z come on st a m setting standing =
-      let first : WorksTo stands y st a m = come st a m setting standing in
-      let second : WorksTo stands z st a first.after = on st a first.after setting first.here in
+      let first : WorksTo represents y st a m = come st a m setting standing in
+      let second : WorksTo represents z st a first.after = on st a first.after setting first.here in
       record {
         deeds = first.deeds ++ second.deeds;
         own = own_both first.deeds second.deeds first.own second.own;
@@ -56,10 +56,10 @@ module _ {M : Type 0} (stands : Setting → ℕ → Machine → M → Type 0) wh
         here = second.here;
       }
 
-  pub on_then : (x y z : M) → ComesOn stands x y → ComesOn stands y z → ComesOn stands x z
+  pub on_then : (x y z : M) → ComesOn represents x y → ComesOn represents y z → ComesOn represents x z
   on_then x y z one other st a m setting here =
-      let first : WorksTo stands y st a m = one st a m setting here in
-      let second : WorksTo stands z st a first.after = other st a first.after setting first.here in
+      let first : WorksTo represents y st a m = one st a m setting here in
+      let second : WorksTo represents z st a first.after = other st a first.after setting first.here in
       record {
         deeds = first.deeds ++ second.deeds;
         own = own_both first.deeds second.deeds first.own second.own;
@@ -68,15 +68,15 @@ module _ {M : Type 0} (stands : Setting → ℕ → Machine → M → Type 0) wh
         here = second.here;
       }
 
-  pub on_still : (x y : M) → StandsStill stands x y → ComesOn stands x y
+  pub on_still : (x y : M) → StandsStill represents x y → ComesOn represents x y
   on_still x y still st a m setting here = record { deeds = []; own = tt; after = m; done = refl; here = still st a m setting here }
 
-  pub on_done : (x y : M) (d : Deed) → IsOwn d → HasDone stands x d y → ComesOn stands x y
+  pub on_done : (x y : M) (d : Deed) → IsOwn d → HasDone represents x d y → ComesOn represents x y
   on_done x y d own has st a m setting here =
       let one = has st a m setting here in
       record { deeds = d ∷ []; own = (own, tt); after = does st a d m; done = (one.0, refl); here = one.1 }
 
-  pub on_admitted : (x y : M) → HasAdmittedSome stands x y → ComesOn stands x y
+  pub on_admitted : (x y : M) → HasAdmittedSome represents x y → ComesOn represents x y
   on_admitted x y has st a m setting here =
       let one = has st a m setting here in
       record { deeds = Admit one.0 ∷ []; own = (tt, tt); after = does st a (Admit one.0) m; done = (one.1, refl); here = one.2 }

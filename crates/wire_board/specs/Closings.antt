@@ -1,5 +1,5 @@
 -- What the threads of a board have led a cluster to, once their parts are together again.
-pub use Rattle.cluster_step.specs.trace.Courses.{CourseView, IsCourseNow}
+pub use Rattle.cluster_step.specs.trace.Traces.{TraceView, IsTraceNow}
 pub use Rattle.wire_board.specs.Led.{Lead, Leading, LinkView, Node, Parts, Seated}
 pub use Rattle.wire_board.specs.Standings.{Machine, Member, Setting, at_rest}
 use Rattle.std.specs.List.{AllByRecursion}
@@ -8,7 +8,7 @@ use mathlib.Core.Option.{some}
 use lib.ListN.{get_elem?}
 use Rattle.cluster_laws.specs.cluster_model.Events as law
 use Rattle.cluster_step.specs.clusters.Inner.Writing.{HaveLinks}
-use Rattle.cluster_step.specs.trace.Courses.{Cluster, InEachCourse}
+use Rattle.cluster_step.specs.trace.Traces.{Cluster, InEachTrace}
 use Rattle.whole_laws.specs.cluster_whole.Whole.{IsNoRecovery}
 use Rattle.wire_board.specs.Led.{link_between, link_no}
 
@@ -35,6 +35,6 @@ pub record ArePutTogether {M : Type 0} (n : ℕ) (lead : Leading) (members : Lis
   pub runs : q.stopped ≡ false
 
 -- Each course to where the cluster was has gone on to where it is, in the same attempt: among the events since may be acknowledgements.
-abbrev pub IsLaterInAttempt : {M : Type 0} → (Setting → ℕ → Machine → M → Type 0) → CourseView M → CourseView M → Type 0
-IsLaterInAttempt stands old new =
-    InEachCourse stands old (λ st o events c. (more : List law.Event) × (later : Cluster) × AllByRecursion IsNoRecovery more × IsCourseNow stands new st o (events ++ more) later)
+abbrev pub IsLaterInAttempt : {M : Type 0} → (Setting → ℕ → Machine → M → Type 0) → TraceView M → TraceView M → Type 0
+IsLaterInAttempt represents old new =
+    InEachTrace represents old (λ st o events c. (more : List law.Event) × (later : Cluster) × AllByRecursion IsNoRecovery more × IsTraceNow represents new st o (events ++ more) later)

@@ -8,5 +8,5 @@ use Rattle.call_laws.specs.whole_calls.Following.{reaches}
 
 -- where each machine had completed so many updates as the attempt began
 abbrev pub IsFree : {M : Type 0} → (Setting → ℕ → Machine → M → Type 0) → List FailureAt → List ℕ → M → ℕ → Type 0
-IsFree stands failures done y a =
-    (st : Setting) (m : Machine) → IsSnapSetting st → stands st a m y → m.done ≡ slice_index_or done a 0 → reaches failures a m.done (completed m) ≡ false
+IsFree represents failures done y a =
+    (st : Setting) (m : Machine) → IsSnapSetting st → represents st a m y → m.done ≡ slice_index_or done a 0 → reaches failures a m.done (completed m) ≡ false

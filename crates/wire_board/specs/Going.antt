@@ -17,14 +17,14 @@ CountsAre done st c = (a : ℕ) → a < st.machines → (c.machine a).done ≡ s
 
 -- These events lead from the cluster to another one, for which the parts stand. They begin no attempt, and they follow the job, where each
 -- machine had completed so many updates as the attempt began.
-pub record GoesTo {X : Type 0} (stands : Setting → ℕ → Machine → X → Type 0) (failures : List FailureAt) (done : List ℕ) (new : Parts X) (st : Setting) (c : Cluster) : Type 0 where
+pub record GoesTo {X : Type 0} (represents : Setting → ℕ → Machine → X → Type 0) (failures : List FailureAt) (done : List ℕ) (new : Parts X) (st : Setting) (c : Cluster) : Type 0 where
   pub events : List law.Event
   pub others : AllByRecursion IsNoRecovery events
   pub later : Cluster
-  pub course : law.IsCourse st c events later
+  pub trace : law.IsTrace st c events later
   pub follows : CountsAre done st c → FollowJob st failures c events
-  pub code : IsSavingClusterOf stands st new later
+  pub code : IsSavingClusterOf represents st new later
 
 -- from each cluster for which the old parts stand
 abbrev pub GoesOn : {X : Type 0} → (Setting → ℕ → Machine → X → Type 0) → List FailureAt → List ℕ → Parts X → Parts X → Type 0
-GoesOn stands failures done old new = (st : Setting) (c : Cluster) → IsSnapSetting st → IsSavingClusterOf stands st old c → GoesTo stands failures done new st c
+GoesOn represents failures done old new = (st : Setting) (c : Cluster) → IsSnapSetting st → IsSavingClusterOf represents st old c → GoesTo represents failures done new st c

@@ -11,18 +11,18 @@ use Rattle.coordinator.specs.machine_api.Promises.{HasHeard, IsReporting, MayHea
 use Rattle.wire.specs.declared.wire_msgs.messages.Message.{Message}
 
 -- In this cluster of the law the code is machine a, which runs, and these messages are on the link from machine p.
-pub record IsHearing {M : Type 0} (stands : Setting → ℕ → Machine → M → Type 0) (y : M) (p a : ℕ) (messages : List MessageView) (st : Setting) (c : Cluster) : Type 0 where
+pub record IsHearing {M : Type 0} (represents : Setting → ℕ → Machine → M → Type 0) (y : M) (p a : ℕ) (messages : List MessageView) (st : Setting) (c : Cluster) : Type 0 where
   pub setting : IsSnapSetting st
   pub going : IsGoing st c
   pub runs : c.stopped ≡ false
   pub awake : law.IsAwake st c a
   pub from : p < st.machines
-  pub here : stands st a (c.machine a) y
+  pub here : represents st a (c.machine a) y
   pub told : c.link p a ≡ map message_read messages
 
 -- there is such a cluster
 abbrev pub CanHear : {M : Type 0} → (Setting → ℕ → Machine → M → Type 0) → M → ℕ → ℕ → List MessageView → Type 0
-CanHear stands y p a messages = (st : Setting) × (c : Cluster) × IsHearing stands y p a messages st c
+CanHear represents y p a messages = (st : Setting) × (c : Cluster) × IsHearing represents y p a messages st c
 
 -- machine a receives these, one after another
 abbrev pub receives_all : Setting → ℕ → List core.Message → Machine → Machine
@@ -31,29 +31,29 @@ receives_all st a (told ∷ more) m = receives_all st a more (prompt st a (recei
 
 -- In each of them it has received the first ones, and the rest is left.
 abbrev pub HasHeardAll : {M : Type 0} → (Setting → ℕ → Machine → M → Type 0) → M → ℕ → ℕ → List MessageView → List MessageView → M → Type 0
-HasHeardAll stands y p a heard rest z =
-    (st : Setting) (c : Cluster) → IsHearing stands y p a (heard ++ rest) st c → stands st a (receives_all st a (map message_read heard) (c.machine a)) z
+HasHeardAll represents y p a heard rest z =
+    (st : Setting) (c : Cluster) → IsHearing represents y p a (heard ++ rest) st c → represents st a (receives_all st a (map message_read heard) (c.machine a)) z
 
 -- it has told machine q these, which were the first that waited
-pub record HasToldAll {M : Type 0} (stands : Setting → ℕ → Machine → M → Type 0) (q : ℕ) (told : List MessageView) (z : M) (st : Setting) (a : ℕ) (m : Machine) : Type 0 where
+pub record HasToldAll {M : Type 0} (represents : Setting → ℕ → Machine → M → Type 0) (q : ℕ) (told : List MessageView) (z : M) (st : Setting) (a : ℕ) (m : Machine) : Type 0 where
   pub behind : List core.Message
   pub first : m.part.out q ≡ map message_read told ++ behind
-  pub after : stands st a (hands q behind m) z
+  pub after : represents st a (hands q behind m) z
 
 -- ---- between a machine and the coordinator
 
 -- the first of these may be heard as a call
 abbrev pub MayHearFirst : {M : Type 0} → (Setting → ℕ → Machine → M → Type 0) → M → List MessageView → Type 0
-MayHearFirst stands y messages = (message : Message) (rest : List MessageView) → messages ≡ message_view message ∷ rest → MayHearCall stands y message
+MayHearFirst represents y messages = (message : Message) (rest : List MessageView) → messages ≡ message_view message ∷ rest → MayHearCall represents y message
 
 -- It has heard the first of these as a call; or nothing has changed.
 abbrev pub HasHeardFirst : {M : Type 0} → (Setting → ℕ → Machine → M → Type 0) → M → List MessageView → List MessageView → M → Type 0
-HasHeardFirst stands y old new z =
-    ((message : Message) × (old ≡ message_view message ∷ new) × HasHeard stands y message z)
-    ⊎ ((new ≡ old) × StandsStill stands y z)
+HasHeardFirst represents y old new z =
+    ((message : Message) × (old ≡ message_view message ∷ new) × HasHeard represents y message z)
+    ⊎ ((new ≡ old) × StandsStill represents y z)
 
 -- It has told its first report; or nothing has changed.
 abbrev pub HasToldFirst : {M : Type 0} → (Setting → ℕ → Machine → M → Type 0) → M → List MessageView → List MessageView → M → Type 0
-HasToldFirst stands y old new z =
-    ((message : Message) × (new ≡ old ++ message_view message ∷ []) × OfEach stands y (IsReporting stands message z))
-    ⊎ ((new ≡ old) × StandsStill stands y z)
+HasToldFirst represents y old new z =
+    ((message : Message) × (new ≡ old ++ message_view message ∷ []) × OfEach represents y (IsReporting represents message z))
+    ⊎ ((new ≡ old) × StandsStill represents y z)

@@ -48,21 +48,21 @@ pub record HoldParts {M : Type 0} (n : ℕ) (p : Parts (Standing M)) (parts : Li
   pub runs : p.stopped ≡ false
 
 -- The parts stand for a cluster, and each cluster for which they stood as the board was made has gone on to one.
-pub record HasBeenLed {M : Type 0} (stands : Setting → ℕ → Machine → M → Type 0) (failures : List FailureAt) (done : List ℕ) (opening : Parts (Standing M)) (n : ℕ) (parts : List (Seated M)) (links : List LinkView) (next left : ℕ) : Type 0 where
+pub record HasBeenLed {M : Type 0} (represents : Setting → ℕ → Machine → M → Type 0) (failures : List FailureAt) (done : List ℕ) (opening : Parts (Standing M)) (n : ℕ) (parts : List (Seated M)) (links : List LinkView) (next left : ℕ) : Type 0 where
   pub now : Parts (Standing M)
   pub held : HoldParts n now parts links next left
-  pub goes : GoesOn (StandsOwing stands) failures done opening now
+  pub goes : GoesOn (StandsOwing represents) failures done opening now
   pub setting : Setting
   pub cluster : Cluster
   pub snaps : IsSnapSetting setting
-  pub stood : IsSavingClusterOf (StandsOwing stands) setting now cluster
+  pub stood : IsSavingClusterOf (StandsOwing represents) setting now cluster
 
 -- A machine that takes the link from another one may hear what is on it; and where it is the coordinator's, the first call. The coordinator
 -- may take the first report of a machine.
 abbrev pub Learns : {M : Type 0} → (Setting → ℕ → Machine → M → Type 0) → Seated M → ℕ → LinkView → Type 0
-Learns stands (Node x) i link =
-    ((p : ℕ) → suc p < x.member.peers → i ≡ link_no x.member.peers p x.member.number → CanHear stands x.member.machine p x.member.number link.messages)
-    × ((lead : ℕ) → suc lead ≡ x.member.peers → i ≡ link_no x.member.peers lead x.member.number → MayHearFirst stands x.member.machine link.messages)
-Learns stands (Lead x) i link =
+Learns represents (Node x) i link =
+    ((p : ℕ) → suc p < x.member.peers → i ≡ link_no x.member.peers p x.member.number → CanHear represents x.member.machine p x.member.number link.messages)
+    × ((lead : ℕ) → suc lead ≡ x.member.peers → i ≡ link_no x.member.peers lead x.member.number → MayHearFirst represents x.member.machine link.messages)
+Learns represents (Lead x) i link =
     (a : ℕ) (message : Message) (rest : List MessageView) → a < x.number → i ≡ link_no (suc x.number) a x.number → link.messages ≡ message_view message ∷ rest
     → MayReport x.coordinator a (message_view message)

@@ -12,18 +12,18 @@ use Rattle.wire.specs.declared.wire_msgs.messages.Message.{Message}
 use Rattle.wire_board.specs.Standings.{HasComeTo}
 
 -- The seat has this machine as it was at its last step, and no link; and the machine has come from there to what it is now.
-pub record Sits {M : Type 0} (stands : Setting → ℕ → Machine → M → Type 0) (member : Member M) (me : Sat (Seated M) LinkView) : Type 0 where
+pub record Sits {M : Type 0} (represents : Setting → ℕ → Machine → M → Type 0) (member : Member M) (me : Sat (Seated M) LinkView) : Type 0 where
   pub was : Standing M
   pub rests : Rests me (Node was) []
   pub number : member.number ≡ was.member.number
   pub peers : member.peers ≡ was.member.peers
-  pub come : HasComeTo stands was member.machine
+  pub come : HasComeTo represents was member.machine
 
 -- The seat has this machine, which owes nothing, and the link i as it was taken.
-pub record HasTakenLink {M : Type 0} (stands : Setting → ℕ → Machine → M → Type 0) (member : Member M) (i : ℕ) (me : Sat (Seated M) LinkView) : Type 0 where
+pub record HasTakenLink {M : Type 0} (represents : Setting → ℕ → Machine → M → Type 0) (member : Member M) (i : ℕ) (me : Sat (Seated M) LinkView) : Type 0 where
   pub queue : LinkView
   pub holds : HoldsLink me (Node (at_rest member)) [] i queue queue
-  pub learns : Learns stands (Node (at_rest member)) i queue
+  pub learns : Learns represents (Node (at_rest member)) i queue
 
 -- The seat has the coordinator first, as it was at its last step, and no link. It is still what it was, with other room.
 pub record Leads {M : Type 0} (lead : Leading) (others : List (Seated M)) (me : Sat (Seated M) LinkView) : Type 0 where
@@ -33,10 +33,10 @@ pub record Leads {M : Type 0} (lead : Leading) (others : List (Seated M)) (me : 
   pub stays : StaysCoordinator was.coordinator lead.coordinator
 
 -- The seat has this coordinator first, and the link i as it was taken.
-pub record HasTakenLead {M : Type 0} (stands : Setting → ℕ → Machine → M → Type 0) (lead : Leading) (others : List (Seated M)) (i : ℕ) (me : Sat (Seated M) LinkView) : Type 0 where
+pub record HasTakenLead {M : Type 0} (represents : Setting → ℕ → Machine → M → Type 0) (lead : Leading) (others : List (Seated M)) (i : ℕ) (me : Sat (Seated M) LinkView) : Type 0 where
   pub queue : LinkView
   pub holds : HoldsLink me (Lead lead) others i queue queue
-  pub learns : Learns stands (Lead lead) i queue
+  pub learns : Learns represents (Lead lead) i queue
 
 -- ---- what the coordinator has told and heard on a link
 

@@ -22,9 +22,9 @@ owed_deeds st a m (Update s ticket) = deed.Update s ticket ∷ []
 owed_deeds st a m (AtOnce v ticket) = deeds_at_once st a v.0 ticket m
 
 -- In a cluster with this setting the code is machine a, which is m once what is owed is done.
-pub record StandsOwing {M : Type 0} (stands : Setting → ℕ → Machine → M → Type 0) (st : Setting) (a : ℕ) (m : Machine) (x : Standing M) : Type 0 where
+pub record StandsOwing {M : Type 0} (represents : Setting → ℕ → Machine → M → Type 0) (st : Setting) (a : ℕ) (m : Machine) (x : Standing M) : Type 0 where
   pub before : Machine
-  pub here : stands st a before x.member.machine
+  pub here : represents st a before x.member.machine
   pub done : AreDone st a (owed_deeds st a before x.owed) before m
 
 -- ---- what a machine does by itself, without a ticket
@@ -37,23 +37,23 @@ IsOwn (Mark s) = ⊤
 IsOwn Section = ⊤
 
 -- From this machine of the law such deeds lead to one for which the code stands.
-pub record WorksTo {M : Type 0} (stands : Setting → ℕ → Machine → M → Type 0) (y : M) (st : Setting) (a : ℕ) (m : Machine) : Type 0 where
+pub record WorksTo {M : Type 0} (represents : Setting → ℕ → Machine → M → Type 0) (y : M) (st : Setting) (a : ℕ) (m : Machine) : Type 0 where
   pub deeds : List Deed
   pub own : AllByRecursion IsOwn deeds
   pub after : Machine
   pub done : AreDone st a deeds m after
-  pub here : stands st a after y
+  pub here : represents st a after y
 
 -- from each machine for which x stood, once what was owed is done
 abbrev pub HasComeTo : {M : Type 0} → (Setting → ℕ → Machine → M → Type 0) → Standing M → M → Type 0
-HasComeTo stands x y = (st : Setting) (a : ℕ) (m : Machine) → IsSnapSetting st → StandsOwing stands st a m x → WorksTo stands y st a m
+HasComeTo represents x y = (st : Setting) (a : ℕ) (m : Machine) → IsSnapSetting st → StandsOwing represents st a m x → WorksTo represents y st a m
 
 -- from each machine for which the old code stands
 abbrev pub ComesOn : {M : Type 0} → (Setting → ℕ → Machine → M → Type 0) → M → M → Type 0
-ComesOn stands old new = OfEach stands old (WorksTo stands new)
+ComesOn represents old new = OfEach represents old (WorksTo represents new)
 
 -- ---- an update at once that it begins
 
 -- v may be updated at once, under whatever ticket
 abbrev pub CanBeginAtOnce : {M : Type 0} → (Setting → ℕ → Machine → M → Type 0) → M → ℕ → Type 0
-CanBeginAtOnce stands y v = (ticket : ℕ) (st : Setting) (a : ℕ) (m : Machine) → IsSnapSetting st → stands st a m y → (after : Machine) × AreDone st a (deeds_at_once st a v ticket m) m after
+CanBeginAtOnce represents y v = (ticket : ℕ) (st : Setting) (a : ℕ) (m : Machine) → IsSnapSetting st → represents st a m y → (after : Machine) × AreDone st a (deeds_at_once st a v ticket m) m after

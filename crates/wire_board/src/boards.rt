@@ -36,10 +36,10 @@ impl<M: SavingMachine> LinkRule<Seated<M>, Link, About<M>> for BoardRule<M> {
 
     ghost empty = { IsBare };
 
-    ghost led = { λ k. HasBeenLed M.stands k.failures.value.items k.done.value.items
+    ghost led = { λ k. HasBeenLed M.represents k.failures.value.items k.done.value.items
         (standing_parts k.machines k.opening.value) k.machines };
 
-    ghost learns = { Learns M.stands };
+    ghost learns = { Learns M.represents };
 
     ghost first = { λ k. first_parts k.machines k.opening.value };
 }
@@ -61,7 +61,7 @@ impl<M: SavingMachine> Board<M> {
         about: About<M>,
     ) -> Result<(Board<M>, Place<Seated<M>, Link>), NoMemory>
         requires opening { AreOpening about.machines about.opening.value links.items }
-        requires stands { StandsForSaving M.stands about.opening.value }
+        requires stands { StandsForSaving M.represents about.opening.value }
         requires tickets { (about.opening.value.next ≡ next) × (about.opening.value.left ≡ left) }
         requires few { (next + left < 2 ^ 64) × (length links.items < 2 ^ 24) }
         ensures facts { IfOk result (λ t. (t.0.table.many ≡ length links.items) ×
@@ -111,7 +111,7 @@ impl<M: SavingMachine> Board<M> {
             (first_parts self.table.table.shared.key.about.machines
             self.table.table.shared.key.about.opening.value)) place.seat.me.0.parts }
         ensures ended { (left : ℕ) × (result.1 + left ≡ self.table.top)
-            × Ended number_of (HasBeenLed M.stands
+            × Ended number_of (HasBeenLed M.represents
             self.table.table.shared.key.about.failures.value.items
             self.table.table.shared.key.about.done.value.items
             (standing_parts self.table.table.shared.key.about.machines

@@ -12,12 +12,12 @@ pub(crate) fn hear_first<M: SavingMachine>(
     machine: &mut M,
     queue: &mut Link,
 ) -> Result<bool, NoMemory>
-    requires { MayHearFirst M.stands machine.old queue.old.messages }
-    ensures both { HasHeardFirst M.stands machine.old queue.old.messages
+    requires { MayHearFirst M.represents machine.old queue.old.messages }
+    ensures both { HasHeardFirst M.represents machine.old queue.old.messages
         queue.new.messages machine.new }
     ensures heard { IfOk result (λ some. some ≡ true → (message : Message) ×
         (queue.old.messages ≡ message_view message ∷ queue.new.messages) ×
-        HasHeard M.stands machine.old message machine.new) }
+        HasHeard M.represents machine.old message machine.new) }
     ensures none { IfOk result (λ some. some ≡ false → machine.new ≡ machine.old) }
 {
     match queue.take() {
@@ -38,13 +38,13 @@ pub(crate) fn tell_first<M: SavingMachine>(
     machine: &mut M,
     queue: &mut Link,
 ) -> Result<bool, NoMemory>
-    ensures both { HasToldFirst M.stands machine.old queue.old.messages
+    ensures both { HasToldFirst M.represents machine.old queue.old.messages
         queue.new.messages machine.new }
     ensures told { IfOk result (λ some. some ≡ true → (message : Message) ×
         (queue.new.messages ≡ queue.old.messages ++ message_view message ∷ []) ×
-        OfEach M.stands machine.old (IsReporting M.stands message machine.new)) }
+        OfEach M.represents machine.old (IsReporting M.represents message machine.new)) }
     ensures none { IfOk result (λ some. some ≡ false →
-        OfEach M.stands machine.old (λ st a m. m.out ≡ [])) }
+        OfEach M.represents machine.old (λ st a m. m.out ≡ [])) }
 {
     queue.reserve()?;
     match machine.report_take() {

@@ -38,17 +38,17 @@ impl<M: SavingMachine> Board<M> {
         scope: ScopeId,
     ) -> Result<Drawn, NoMemory>
         requires table { place.old.seat.table_id ≡ self.now.table.table.shared.table_id }
-        requires can { CanUpdate M.stands member.old.machine scope }
-        requires free { IsFree M.stands self.now.table.table.shared.key.about.failures.value.items
+        requires can { CanUpdate M.represents member.old.machine scope }
+        requires free { IsFree M.represents self.now.table.table.shared.key.about.failures.value.items
             self.now.table.table.shared.key.about.done.value.items
             member.old.machine member.old.number }
-        requires sits { Sits M.stands member.old place.old.seat.me }
+        requires sits { Sits M.represents member.old place.old.seat.me }
         ensures table { place.new.seat.table_id ≡ place.old.seat.table_id }
-        ensures sits { OnOk result (Sits M.stands member.new place.new.seat.me) }
+        ensures sits { OnOk result (Sits M.represents member.new place.new.seat.me) }
         ensures same { (member.new.number ≡ member.old.number) ×
             (member.new.peers ≡ member.old.peers) }
         ensures made { IfOk result (λ drawn. (t : ℕ) → drawn ≡ Drawn.Made t →
-            HasDone M.stands member.old.machine (Update scope t) member.new.machine ×
+            HasDone M.represents member.old.machine (Update scope t) member.new.machine ×
             (place.new.seat.me.0.found ≡ (word_at self.now.table.many, t))) }
         ensures late { IfOk result (λ drawn. drawn ≡ Drawn.Late →
             member.new.machine ≡ member.old.machine) }
@@ -76,7 +76,7 @@ impl<M: SavingMachine> Board<M> {
     /// The machine's place has it as it is now: it owes nothing.
     pub fn rest(&self, member: &Member<M>, place: &mut Place<Seated<M>, Link>)
         requires table { place.old.seat.table_id ≡ self.now.table.table.shared.table_id }
-        requires sits { Sits M.stands member.now place.old.seat.me }
+        requires sits { Sits M.represents member.now place.old.seat.me }
         ensures table { place.new.seat.table_id ≡ place.old.seat.table_id }
         ensures rests { Rests place.new.seat.me (Node (at_rest member.now)) [] }
     {
@@ -94,17 +94,17 @@ impl<M: EagerMachine> Board<M> {
         v: Vertex,
     ) -> Result<Drawn, NoMemory>
         requires table { place.old.seat.table_id ≡ self.now.table.table.shared.table_id }
-        requires can { CanBeginAtOnce M.stands member.old.machine v.0 }
-        requires free { IsFree M.stands self.now.table.table.shared.key.about.failures.value.items
+        requires can { CanBeginAtOnce M.represents member.old.machine v.0 }
+        requires free { IsFree M.represents self.now.table.table.shared.key.about.failures.value.items
             self.now.table.table.shared.key.about.done.value.items
             member.old.machine member.old.number }
-        requires sits { Sits M.stands member.old place.old.seat.me }
+        requires sits { Sits M.represents member.old place.old.seat.me }
         ensures table { place.new.seat.table_id ≡ place.old.seat.table_id }
-        ensures sits { OnOk result (Sits M.stands member.new place.new.seat.me) }
+        ensures sits { OnOk result (Sits M.represents member.new place.new.seat.me) }
         ensures same { (member.new.number ≡ member.old.number) ×
             (member.new.peers ≡ member.old.peers) }
         ensures made { IfOk result (λ drawn. (t : ℕ) → drawn ≡ Drawn.Made t →
-            HasUpdatedAtOnce M.stands member.old.machine v.0 t member.new.machine ×
+            HasUpdatedAtOnce M.represents member.old.machine v.0 t member.new.machine ×
             (place.new.seat.me.0.found ≡ (word_at self.now.table.many, t))) }
         ensures late { IfOk result (λ drawn. drawn ≡ Drawn.Late →
             member.new.machine ≡ member.old.machine) }

@@ -12,12 +12,12 @@ use gl_base::{NoMemory, Vertex};
 pub trait EagerMachine: SavingMachine {
     /// A vertex that may be updated at once now: the one that the machine looks at.
     fn next_at_once(&mut self) -> Option<Vertex>
-        ensures some { IfSome result (λ v. CanBeginAtOnce Self.stands self.new v.0) }
-        ensures unchanged { StandsStill Self.stands self.old self.new };
+        ensures some { IfSome result (λ v. CanBeginAtOnce Self.represents self.new v.0) }
+        ensures unchanged { StandsStill Self.represents self.old self.new };
 
     /// Makes the update at once of the vertex that it has named, under this ticket.
     fn update_now(&mut self, v: Vertex, ticket: u64) -> Result<(), NoMemory>
-        requires { CanBeginAtOnce Self.stands self.old v.0 }
-        ensures updated { OnOk result (HasUpdatedAtOnce Self.stands self.old v.0 ticket self.new) }
-        ensures unchanged { OnErr result (StandsStill Self.stands self.old self.new) };
+        requires { CanBeginAtOnce Self.represents self.old v.0 }
+        ensures updated { OnOk result (HasUpdatedAtOnce Self.represents self.old v.0 ticket self.new) }
+        ensures unchanged { OnErr result (StandsStill Self.represents self.old self.new) };
 }

@@ -12,10 +12,10 @@ pub(crate) fn hear_all<M: SavingMachine>(
     _me: usize,
     queue: &mut Link,
 ) -> Result<(), NoMemory>
-    requires { CanHear M.stands machine.old from.0 _me queue.old.messages }
+    requires { CanHear M.represents machine.old from.0 _me queue.old.messages }
     ensures heard { (heard : List MessageView) ×
         (queue.old.messages ≡ heard ++ queue.new.messages) ×
-        HasHeardAll M.stands machine.old from.0 _me heard queue.new.messages machine.new }
+        HasHeardAll M.represents machine.old from.0 _me heard queue.new.messages machine.new }
     ensures whole { OnOk result (queue.new.messages ≡ []) }
 {
     while let Some(message) = queue.take() {

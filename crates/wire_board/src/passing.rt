@@ -62,14 +62,14 @@ impl<M: SavingMachine> Board<M> {
             (member.old.peers < 2 ^ 16) }
         requires from { (suc from.0 < member.old.peers) ×
             (suc member.old.number < member.old.peers) }
-        requires sits { Sits M.stands member.old place.old.seat.me }
+        requires sits { Sits M.represents member.old place.old.seat.me }
         ensures table { place.new.seat.table_id ≡ place.old.seat.table_id }
-        ensures sits { Sits M.stands member.new place.new.seat.me }
+        ensures sits { Sits M.represents member.new place.new.seat.me }
         ensures same { (member.new.number ≡ member.old.number) ×
             (member.new.peers ≡ member.old.peers) }
         ensures applied { IfOk result (λ how. how ≡ Heard.Applied → (heard : List MessageView) ×
-            (heard ≢ []) × CanHear M.stands member.old.machine from.0 member.old.number heard
-            × HasHeardAll M.stands member.old.machine from.0 member.old.number heard
+            (heard ≢ []) × CanHear M.represents member.old.machine from.0 member.old.number heard
+            × HasHeardAll M.represents member.old.machine from.0 member.old.number heard
             [] member.new.machine) }
         ensures empty { IfOk result (λ how. how ≡ Heard.Empty →
             (member.new.machine ≡ member.old.machine)
@@ -102,15 +102,15 @@ impl<M: SavingMachine> Board<M> {
         requires link { (link < self.now.table.many) ×
             (link ≡ link_no member.old.peers from.0 member.old.number) ×
             (suc from.0 < member.old.peers) }
-        requires holds { HasTakenLink M.stands member.old link place.old.seat.me }
+        requires holds { HasTakenLink M.represents member.old link place.old.seat.me }
         ensures table { place.new.seat.table_id ≡ place.old.seat.table_id }
-        ensures sits { Sits M.stands member.new place.new.seat.me }
+        ensures sits { Sits M.represents member.new place.new.seat.me }
         ensures same { (member.new.number ≡ member.old.number) ×
             (member.new.peers ≡ member.old.peers) }
         ensures found { place.new.seat.me.0.found ≡ place.old.seat.me.0.found }
         ensures applied { IfOk result (λ how. how ≡ Heard.Applied → (heard : List MessageView) ×
-            (heard ≢ []) × CanHear M.stands member.old.machine from.0 member.old.number heard
-            × HasHeardAll M.stands member.old.machine from.0 member.old.number heard
+            (heard ≢ []) × CanHear M.represents member.old.machine from.0 member.old.number heard
+            × HasHeardAll M.represents member.old.machine from.0 member.old.number heard
             [] member.new.machine) }
         ensures empty { IfOk result (λ how. how ≡ Heard.Empty →
             member.new.machine ≡ member.old.machine) }
@@ -140,18 +140,18 @@ impl<M: SavingMachine> Board<M> {
         requires links { (member.old.peers * member.old.peers ≡ self.now.table.many) ×
             (member.old.peers < 2 ^ 16) }
         requires to { (suc to.0 < member.old.peers) × (suc member.old.number < member.old.peers) }
-        requires sits { Sits M.stands member.old place.old.seat.me }
+        requires sits { Sits M.represents member.old place.old.seat.me }
         ensures table { place.new.seat.table_id ≡ place.old.seat.table_id }
-        ensures sits { Sits M.stands member.new place.new.seat.me }
+        ensures sits { Sits M.represents member.new place.new.seat.me }
         ensures same { (member.new.number ≡ member.old.number) ×
             (member.new.peers ≡ member.old.peers) }
         ensures moved { IfOk result (λ how. how ≡ Told.Moved → (told : List MessageView) ×
-            OfEach M.stands member.old.machine (HasToldAll M.stands to.0 told member.new.machine)
-            × OfEach M.stands member.old.machine (λ st a m.
+            OfEach M.represents member.old.machine (HasToldAll M.represents to.0 told member.new.machine)
+            × OfEach M.represents member.old.machine (λ st a m.
             (m.part.out to.0 ≡ map message_read told) × (m.part.out to.0 ≢ []))) }
         ensures nothing { IfOk result (λ how. how ≡ Told.Nothing →
             (member.new.machine ≡ member.old.machine) ×
-            OfEach M.stands member.old.machine (λ st a m. m.part.out to.0 ≡ [])) }
+            OfEach M.represents member.old.machine (λ st a m. m.part.out to.0 ≡ [])) }
         ensures busy { IfOk result (λ how. how ≡ Told.Busy →
             (member.new.machine ≡ member.old.machine)
             × (word : LinkWord) × (word ≢ Bare) ×
@@ -186,17 +186,17 @@ impl<M: SavingMachine> Board<M> {
         requires links { (member.old.peers * member.old.peers ≡ self.now.table.many) ×
             (member.old.peers < 2 ^ 16) }
         requires inside { suc member.old.number < member.old.peers }
-        requires free { IsFree M.stands self.now.table.table.shared.key.about.failures.value.items
+        requires free { IsFree M.represents self.now.table.table.shared.key.about.failures.value.items
             self.now.table.table.shared.key.about.done.value.items
             member.old.machine member.old.number }
-        requires sits { Sits M.stands member.old place.old.seat.me }
+        requires sits { Sits M.represents member.old place.old.seat.me }
         ensures table { place.new.seat.table_id ≡ place.old.seat.table_id }
-        ensures sits { Sits M.stands member.new place.new.seat.me }
+        ensures sits { Sits M.represents member.new place.new.seat.me }
         ensures same { (member.new.number ≡ member.old.number) ×
             (member.new.peers ≡ member.old.peers) }
         ensures applied { IfOk result (λ how. how ≡ Heard.Applied → (message : Message) ×
-            MayHearCall M.stands member.old.machine message ×
-            HasHeard M.stands member.old.machine message member.new.machine) }
+            MayHearCall M.represents member.old.machine message ×
+            HasHeard M.represents member.old.machine message member.new.machine) }
         ensures empty { IfOk result (λ how. how ≡ Heard.Empty →
             (member.new.machine ≡ member.old.machine)
             × (word : LinkWord) × (word ≢ Out) ×
@@ -238,15 +238,15 @@ impl<M: SavingMachine> Board<M> {
         requires links { (member.old.peers * member.old.peers ≡ self.now.table.many) ×
             (member.old.peers < 2 ^ 16) }
         requires inside { suc member.old.number < member.old.peers }
-        requires sits { Sits M.stands member.old place.old.seat.me }
+        requires sits { Sits M.represents member.old place.old.seat.me }
         ensures table { place.new.seat.table_id ≡ place.old.seat.table_id }
-        ensures sits { Sits M.stands member.new place.new.seat.me }
+        ensures sits { Sits M.represents member.new place.new.seat.me }
         ensures same { (member.new.number ≡ member.old.number) ×
             (member.new.peers ≡ member.old.peers) }
         ensures moved { IfOk result (λ how. how ≡ Told.Moved → (message : Message) ×
-            OfEach M.stands member.old.machine (IsReporting M.stands message member.new.machine)) }
+            OfEach M.represents member.old.machine (IsReporting M.represents message member.new.machine)) }
         ensures nothing { IfOk result (λ how. how ≡ Told.Nothing →
-            OfEach M.stands member.old.machine (λ st a m. HasNext m.out → ⊥)) }
+            OfEach M.represents member.old.machine (λ st a m. HasNext m.out → ⊥)) }
         ensures busy { IfOk result (λ how. how ≡ Told.Busy →
             (member.new.machine ≡ member.old.machine)
             × (word : LinkWord) × (word ≢ Bare) ×
@@ -282,10 +282,10 @@ impl<M: SavingMachine> Board<M> {
     ) -> LinkWord
         requires table { place.old.seat.table_id ≡ self.now.table.table.shared.table_id }
         requires link { link < self.now.table.many }
-        requires sits { Sits M.stands member.now place.old.seat.me }
+        requires sits { Sits M.represents member.now place.old.seat.me }
         ensures table { place.new.seat.table_id ≡ place.old.seat.table_id }
-        ensures taken { result ≡ Laden → HasTakenLink M.stands member.now link place.new.seat.me }
-        ensures missed { result ≢ Laden → Sits M.stands member.now place.new.seat.me }
+        ensures taken { result ≡ Laden → HasTakenLink M.represents member.now link place.new.seat.me }
+        ensures missed { result ≢ Laden → Sits M.represents member.now place.new.seat.me }
         ensures found { place.new.seat.me.0.found ≡ (word_at link, number_in result) }
     {
         let word = self.table.look(place, link);
@@ -299,10 +299,10 @@ impl<M: SavingMachine> Board<M> {
     fn take_home(&self, member: &Member<M>, place: &mut Place<Seated<M>, Link>, link: usize) -> bool
         requires table { place.old.seat.table_id ≡ self.now.table.table.shared.table_id }
         requires link { link < self.now.table.many }
-        requires sits { Sits M.stands member.now place.old.seat.me }
+        requires sits { Sits M.represents member.now place.old.seat.me }
         ensures table { place.new.seat.table_id ≡ place.old.seat.table_id }
-        ensures taken { result ≡ true → HasTakenLink M.stands member.now link place.new.seat.me }
-        ensures missed { result ≡ false → Sits M.stands member.now place.new.seat.me }
+        ensures taken { result ≡ true → HasTakenLink M.represents member.now link place.new.seat.me }
+        ensures missed { result ≡ false → Sits M.represents member.now place.new.seat.me }
         ensures found { result ≡ false → (word : LinkWord) × (word ≢ Bare) ×
             (place.new.seat.me.0.found ≡ (word_at link, number_in word)) }
     {
@@ -324,10 +324,10 @@ impl<M: SavingMachine> Board<M> {
     ) -> bool
         requires table { place.old.seat.table_id ≡ self.now.table.table.shared.table_id }
         requires link { link < self.now.table.many }
-        requires sits { Sits M.stands member.now place.old.seat.me }
+        requires sits { Sits M.represents member.now place.old.seat.me }
         ensures table { place.new.seat.table_id ≡ place.old.seat.table_id }
-        ensures taken { result ≡ true → HasTakenLink M.stands member.now link place.new.seat.me }
-        ensures missed { result ≡ false → Sits M.stands member.now place.new.seat.me }
+        ensures taken { result ≡ true → HasTakenLink M.represents member.now link place.new.seat.me }
+        ensures missed { result ≡ false → Sits M.represents member.now place.new.seat.me }
         ensures found { result ≡ false → (word : LinkWord) × (word ≢ Bare) ×
             (place.new.seat.me.0.found ≡ (word_at link, number_in word)) }
     {
@@ -352,10 +352,10 @@ impl<M: SavingMachine> Board<M> {
     ) -> LinkWord
         requires table { place.old.seat.table_id ≡ self.now.table.table.shared.table_id }
         requires link { (link < self.now.table.many) × (expected ≢ Out) }
-        requires sits { Sits M.stands member.now place.old.seat.me }
+        requires sits { Sits M.represents member.now place.old.seat.me }
         ensures table { place.new.seat.table_id ≡ place.old.seat.table_id }
-        ensures taken { result ≡ expected → HasTakenLink M.stands member.now link place.new.seat.me }
-        ensures missed { result ≢ expected → Sits M.stands member.now place.new.seat.me }
+        ensures taken { result ≡ expected → HasTakenLink M.represents member.now link place.new.seat.me }
+        ensures missed { result ≢ expected → Sits M.represents member.now place.new.seat.me }
         ensures found { place.new.seat.me.0.found ≡ (word_at link, number_in result) }
     {
         self.table
@@ -376,14 +376,14 @@ impl<M: SavingMachine> Board<M> {
             HoldsLink place.old.seat.me (Node (at_rest old)) [] link q r ×
             (member.now.number ≡ old.number)
             × CarriesLink number_of
-            (HasBeenLed M.stands self.now.table.table.shared.key.about.failures.value.items
+            (HasBeenLed M.represents self.now.table.table.shared.key.about.failures.value.items
             self.now.table.table.shared.key.about.done.value.items
             (standing_parts self.now.table.table.shared.key.about.machines
             self.now.table.table.shared.key.about.opening.value)
             self.now.table.table.shared.key.about.machines) link (Node (at_rest old)) q
             (Node (at_rest member.now)) queue }
         ensures table { place.new.seat.table_id ≡ place.old.seat.table_id }
-        ensures sits { Sits M.stands member.now place.new.seat.me }
+        ensures sits { Sits M.represents member.now place.new.seat.me }
         ensures found { place.new.seat.me.0.found ≡ place.old.seat.me.0.found }
     {
         let word = word_of(&queue);

@@ -124,7 +124,7 @@ impl<M: SavingMachine> Board<M> {
         ensures table { place.new.seat.table_id ≡ place.old.seat.table_id }
         ensures taken { result ≡ true → (others : List (Seated M)) →
             Leads lead.now others place.old.seat.me →
-            HasTakenLead M.stands lead.now others link place.new.seat.me }
+            HasTakenLead M.represents lead.now others link place.new.seat.me }
         ensures missed { result ≡ false → (others : List (Seated M)) →
             Leads lead.now others place.old.seat.me → Leads lead.now others place.new.seat.me }
         ensures found { result ≡ false → (word : LinkWord) × (word ≢ Laden) ×
@@ -155,7 +155,7 @@ impl<M: SavingMachine> Board<M> {
         ensures table { place.new.seat.table_id ≡ place.old.seat.table_id }
         ensures taken { result ≡ expected → (others : List (Seated M)) →
             Leads lead.now others place.old.seat.me →
-            HasTakenLead M.stands lead.now others link place.new.seat.me }
+            HasTakenLead M.represents lead.now others link place.new.seat.me }
         ensures missed { result ≢ expected → (others : List (Seated M)) →
             Leads lead.now others place.old.seat.me → Leads lead.now others place.new.seat.me }
         ensures found { place.new.seat.me.0.found ≡ (word_at link, number_in result) }
@@ -178,7 +178,7 @@ impl<M: SavingMachine> Board<M> {
             (r : LinkView) × HoldsLink place.old.seat.me (Lead old) others link q r ×
             (lead.now.number ≡ old.number)
             × CarriesLink number_of
-            (HasBeenLed M.stands self.now.table.table.shared.key.about.failures.value.items
+            (HasBeenLed M.represents self.now.table.table.shared.key.about.failures.value.items
             self.now.table.table.shared.key.about.done.value.items
             (standing_parts self.now.table.table.shared.key.about.machines
             self.now.table.table.shared.key.about.opening.value)

@@ -15,8 +15,8 @@ pub(crate) fn tell_all<M: SavingMachine>(
     queue: &mut Link,
 ) -> Result<(), NoMemory>
     ensures { (told : List MessageView) × (queue.new.messages ≡ queue.old.messages ++ told) ×
-        OfEach M.stands machine.old (HasToldAll M.stands to.0 told machine.new)
-        × OnOk result (OfEach M.stands machine.old (λ st a m.
+        OfEach M.represents machine.old (HasToldAll M.represents to.0 told machine.new)
+        × OnOk result (OfEach M.represents machine.old (λ st a m.
         m.part.out to.0 ≡ map message_read told)) }
 {
     for _ in 0..u64::MAX {

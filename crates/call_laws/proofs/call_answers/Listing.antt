@@ -14,7 +14,7 @@ use Rattle.call_laws.specs.attempts.EngineCalls.{EngineCall, IsEngineCall, IsOrd
 use Rattle.call_laws.specs.attempts.Stores.{IsWithinWindow, last_order, snapshots_of}
 use Rattle.call_laws.specs.call_answers.Answers.{HasRestarts, IsRunWithFailures, KeepsToWindow, RunLists, Shared, is_restart, is_update_below, made_by, reached_places}
 use Rattle.call_laws.specs.call_answers.Ends.{FinishesRun, SpendsRun}
-use Rattle.call_laws.specs.call_answers.Courses.{IsMerge, ListsOfCourse, all_logged, machine_logs}
+use Rattle.call_laws.specs.call_answers.Traces.{IsMerge, ListsOfTrace, all_logged, machine_logs}
 use Rattle.cluster_laws.specs.cluster_core.Recovering.{going_on}
 use Rattle.cluster_laws.specs.cluster_core.Replays.{IsTask}
 use Rattle.cluster_laws.specs.cluster_core.Settings.{Setting}
@@ -32,9 +32,9 @@ use Rattle.cluster_laws.specs.merged_logs.Merges.{IsByMachineBelow, logs_of}
 use Rattle.call_laws.proofs.whole_calls.Calling.{the_call}
 use Rattle.call_laws.specs.whole_calls.Called.{IsCallOf, KeepsWindows}
 use Rattle.call_laws.specs.whole_calls.Following.{has_reached}
-use Rattle.call_laws.specs.whole_calls.Opened.{IsCourseOfCall}
+use Rattle.call_laws.specs.whole_calls.Opened.{IsTraceOfCall}
 use Rattle.call_laws.specs.whole_calls.Saved.{AreNextOrders, AreSnapshotsOf, fronts_in, recorded_in}
-use Rattle.call_laws.specs.whole_calls.Telling.{HasSavedTheEnd, TellsOfCall}
+use Rattle.call_laws.specs.whole_calls.Telling.{HasSavedTheEnd, CallReport}
 
 -- as many places as failures
 as_many : (done : ℕ → ℕ) (place : ℕ) (failures : List FailureAt) →
@@ -126,11 +126,11 @@ module _ (shared : Shared) (call : EngineCall) (is : IsEngineCall shared call) (
 -- ---- of a cluster to which events led
 
 module _ (st : Setting) (failures : List FailureAt) (kept : List Entry) (resumed : Bool) (base : BaseView) (first : Cluster) (events : List Event) (c : Cluster) (lists : RunLists)
-    (course : IsCourseOfCall st failures kept resumed base first events c) (are : ListsOfCourse st failures base first events c lists) where
+    (trace : IsTraceOfCall st failures kept resumed base first events c) (are : ListsOfTrace st failures base first events c lists) where
   all_spent : (n left budget : ℕ) → n + left ≡ budget → left ≡ 0 → n ≡ budget
   all_spent n left budget all none = omega arith
 
-  pub course_runs : (call : EngineCall)
+  pub trace_runs : (call : EngineCall)
       × IsCallOf st failures kept resumed c call
       × IsRunWithFailures (shared_of st failures) st.machines kept resumed call.last.struck lists
       × (lists.order ≡ call_order call)
@@ -139,12 +139,12 @@ module _ (st : Setting) (failures : List FailureAt) (kept : List Entry) (resumed
       × AreNextOrders st kept (fronts_in (going_on st base.numbers base.number) (recovers st base first) events) (recorded_in (going_on st base.numbers base.number) (recovers st base first) events) (snapshots_of call)
       × (0 < half_window st → length (snapshots_of call) + under_way c ≤ first.left / half_window st + 1)
       × (sum_by (λ count. count) lists.done + c.left ≡ first.left)
-      × TellsOfCall st first.left c call
+      × CallReport st first.left c call
       × (st.stored ≡ true → HasSavedTheEnd st c.coordinator → FinishesRun true (shared_of st failures) kept (snapshots_of call) call.last.struck lists)
       × ((left : ℕ) → c.left ≡ 0 → ((a : ℕ) → a < st.machines → has_reached failures c a ≡ false) → left < size st.graph → IsTask st (world_of c) left →
       SpendsRun (shared_of st failures) first.left left call.last.struck lists)
-  course_runs =
-      let made = the_call st failures kept resumed base first events c course in
+  trace_runs =
+      let made = the_call st failures kept resumed base first events c trace in
       let call : EngineCall = made.0 in
       let of : IsCallOf st failures kept resumed c call = made.1 in
       let is : IsEngineCall (shared_of st failures) call = of.is in

@@ -12,7 +12,7 @@ use Rattle.cluster_laws.proofs.cluster_core.Basics.{set_at-kept}
 use Rattle.cluster_laws.proofs.cluster_cuts.CutsGoOn.{updates_from-append}
 use Rattle.cluster_laws.specs.cluster_model.Calls.{Begin, Call, Committed, Count, Report, Saved, Step, Want, Wave}
 use Rattle.cluster_laws.specs.cluster_model.Clusters.{BaseView, Cluster, with_machine}
-use Rattle.cluster_laws.specs.cluster_model.Events.{Event, Admit, DeliverCall, DeliverReport, Deliver, Fail, GoesBackTo, Grant, IsCourse, Mark, MayDo, PutBegin, PutStep, PutWave, Record, Recover, Section, Send, SendCall, SendReport, Stop, Update, after_event, delivers_call, delivers_message, delivers_report, failures_in, makes, recovers, saves, sends_call, sends_message, sends_report, setting_after}
+use Rattle.cluster_laws.specs.cluster_model.Events.{Event, Admit, DeliverCall, DeliverReport, Deliver, Fail, GoesBackTo, Grant, IsTrace, Mark, MayDo, PutBegin, PutStep, PutWave, Record, Recover, Section, Send, SendCall, SendReport, Stop, Update, after_event, delivers_call, delivers_message, delivers_report, failures_in, makes, recovers, saves, sends_call, sends_message, sends_report, setting_after}
 use Rattle.cluster_laws.specs.cluster_model.Machines.{Machine, completed}
 use Rattle.cluster_laws.specs.cluster_model.Working.{admits, fails, grants, hands, hands_report, makes_mark, makes_update, prompt, receives, sections, takes_call}
 use Rattle.cluster_laws.specs.cluster_runs.Recorded.{shared_of}
@@ -22,7 +22,7 @@ use Rattle.whole_laws.specs.cluster_records.Bases.{IsBased}
 use Rattle.whole_laws.specs.cluster_records.Recorded.{IsAccounted}
 use Rattle.whole_laws.proofs.cluster_records.Accounts.{quiet_kept, update_kept}
 use Rattle.whole_laws.proofs.cluster_records.Based.{base_kept, base_order, next_base, still_based, update_based}
-use Rattle.whole_laws.proofs.cluster_records.Courses.{are_coloured, begun}
+use Rattle.whole_laws.proofs.cluster_records.Traces.{are_coloured, begun}
 use Rattle.whole_laws.proofs.cluster_records.Entering.{IsNoUpdate, draws_none, update_logged}
 use Rattle.whole_laws.proofs.cluster_records.Filtering.{all-more}
 use Rattle.call_laws.specs.attempts.Beginnings.{again}
@@ -214,16 +214,16 @@ module _ (failures : List FailureAt) (start : Beginning) where
   Made st shared c = (next : IsWhole st c) × (now : List Logged) × IsAccounted st c next now × IsBased st c now
       × (more : List Attempt) × IsCallSoFar shared start c now more × AreAttempts shared start more (attempt_of failures (begins_behind start more) c now)
 
-  pub courses_make : (events : List Event) (st : Setting) → IsSetting st → (old new : Cluster) (whole : IsWhole st old) (logged : List Logged) (failed : List Attempt) → IsCourse st old events new →
+  pub traces_make : (events : List Event) (st : Setting) → IsSetting st → (old new : Cluster) (whole : IsWhole st old) (logged : List Logged) (failed : List Attempt) → IsTrace st old events new →
       IsAccounted st old whole logged → IsBased st old logged → IsCallSoFar (shared_of st failures) start old logged failed → KeepToJob st failures old events →
       Made (setting_behind st events) (shared_of st failures) new
-  courses_make [] st is old new whole logged failed course account based so keep =
-      subst (Made st (shared_of st failures)) (sym course)
+  traces_make [] st is old new whole logged failed trace account based so keep =
+      subst (Made st (shared_of st failures)) (sym trace)
       (whole, logged, account, based, failed, so, attempts_end (shared_of st failures) start failed (attempt_of failures (begins_behind start failed) old logged) so.have (made_now st is old whole logged account based failed so keep))
-  courses_make (event ∷ events) st is old new whole logged failed course account based so keep =
-      let one = leaves st is old whole logged account based failed so event course.0.1 keep.0 in
+  traces_make (event ∷ events) st is old new whole logged failed trace account based so keep =
+      let one = leaves st is old whole logged account based failed so event trace.0.1 keep.0 in
       subst (λ (shared : Shared). Made (setting_behind (setting_after st event) events) shared new) (shared_after st event)
-      (courses_make events (setting_after st event) one.0 (after_event st old event) new one.1 one.2 one.5 course.1 one.3 one.4 one.6 keep.1)
+      (traces_make events (setting_after st event) one.0 (after_event st old event) new one.1 one.2 one.5 trace.1 one.3 one.4 one.6 keep.1)
 
 pub begins_so : (st : Setting) (failures : List FailureAt) (start : Beginning) (base : BaseView) (c : Cluster) → base.order ≡ start.front → c.next ≡ start.next → ((a : ℕ) → completed (c.machine a) ≡ start.done a) →
     IsCallSoFar (shared_of st failures) start (recovers st base c) [] []

@@ -14,15 +14,15 @@ use Rattle.cluster_laws.specs.cluster_core.Replays.{ticket_of}
 use Rattle.cluster_laws.specs.cluster_core.Settings.{IsSetting, Setting}
 use Rattle.cluster_laws.specs.cluster_core.Worlds.{World}
 use Rattle.cluster_laws.proofs.cluster_cuts.MarkEvents.{all_known, section_come}
-use Rattle.whole_laws.proofs.cluster_ending.Courses.{setting_same}
+use Rattle.whole_laws.proofs.cluster_ending.Traces.{setting_same}
 use Rattle.cluster_laws.specs.cluster_model.ByTicket.{StandByTicket}
 use Rattle.cluster_laws.specs.cluster_model.Clusters.{BaseView, Cluster}
-use Rattle.cluster_laws.specs.cluster_model.Events.{Event, IsCourse, MayDo, Recover, Update, after_event, entries_below, recovers, setting_after}
+use Rattle.cluster_laws.specs.cluster_model.Events.{Event, IsTrace, MayDo, Recover, Update, after_event, entries_below, recovers, setting_after}
 use Rattle.cluster_laws.specs.cluster_model.Leading.{RecordIsDue}
 use Rattle.whole_laws.specs.cluster_records.Bases.{IsBased}
 use Rattle.whole_laws.specs.cluster_records.Listed.{is_first_in}
 use Rattle.whole_laws.specs.cluster_records.Recorded.{IsAccounted, IsOwnUpdate, snapshot_due}
-use Rattle.whole_laws.proofs.cluster_records.Courses.{courses_go, event_goes}
+use Rattle.whole_laws.proofs.cluster_records.Traces.{traces_go, event_goes}
 use Rattle.whole_laws.proofs.cluster_records.Filtering.{passing, passing-cons_in, passing-cons_out}
 use Rattle.whole_laws.proofs.cluster_records.Numbering.{all_own}
 use Rattle.whole_laws.proofs.cluster_records.Recording.{come_section, due_updates, next_number}
@@ -33,8 +33,8 @@ use Rattle.whole_laws.proofs.cluster_whole.Joining.{event_leads}
 use Rattle.whole_laws.proofs.cluster_whole.Wholeness.{is_exclusive, may_record}
 use Rattle.call_laws.proofs.each_saved_once.OnlyOnce.{SavesRight, move_right}
 use Rattle.call_laws.specs.whole_calls.Called.{IsCallOf}
-use Rattle.call_laws.specs.whole_calls.Opened.{IsCourseOfCall}
-use Rattle.call_laws.specs.whole_calls.Telling.{TellsOfCall}
+use Rattle.call_laws.specs.whole_calls.Opened.{IsTraceOfCall}
+use Rattle.call_laws.specs.whole_calls.Telling.{CallReport}
 use Rattle.call_laws.proofs.whole_calls.Calling.{the_call}
 use Rattle.call_laws.proofs.whole_calls.EventKinds.{by_kind}
 use Rattle.call_laws.proofs.whole_calls.Going.{IsInCall}
@@ -68,12 +68,12 @@ module _ (st : Setting) (is : IsSetting st) (c : Cluster) (whole : IsWhole st c)
       (λ base may. begins_right st (setting_after st (Recover base)) base c)
       event
 
-courses_right : (events : List Event) (st : Setting) → IsSetting st → (old new : Cluster) (whole : IsWhole st old) (logged : List Logged) → IsAccounted st old whole logged → IsBased st old logged →
-    IsCourse st old events new → SavesRight st (world_of old) → SavesRight (setting_behind st events) (world_of new)
-courses_right [] st is old new whole logged account based course right = subst (λ (c : Cluster). SavesRight st (world_of c)) (sym course) right
-courses_right (event ∷ events) st is old new whole logged account based course right =
-    let goes = event_goes st is old whole logged account based event course.0.1 in
-    courses_right events (setting_after st event) goes.0 (after_event st old event) new goes.1 goes.2 goes.3 goes.4 course.1 (event_right st is old whole right event course.0.1)
+traces_right : (events : List Event) (st : Setting) → IsSetting st → (old new : Cluster) (whole : IsWhole st old) (logged : List Logged) → IsAccounted st old whole logged → IsBased st old logged →
+    IsTrace st old events new → SavesRight st (world_of old) → SavesRight (setting_behind st events) (world_of new)
+traces_right [] st is old new whole logged account based trace right = subst (λ (c : Cluster). SavesRight st (world_of c)) (sym trace) right
+traces_right (event ∷ events) st is old new whole logged account based trace right =
+    let goes = event_goes st is old whole logged account based event trace.0.1 in
+    traces_right events (setting_after st event) goes.0 (after_event st old event) new goes.1 goes.2 goes.3 goes.4 trace.1 (event_right st is old whole right event trace.0.1)
 
 -- ---- where a record is due
 
@@ -151,7 +151,7 @@ next_low : (next left total : ℕ) → next + left ≡ total → next ≤ total
 next_low next left total is = omega arith
 
 module _ (st : Setting) (failures : List FailureAt) (kept : List Entry) (resumed : Bool) (base : BaseView) (first : Cluster) (events : List Event) (c : Cluster)
-    (course : IsCourseOfCall st failures kept resumed base first events c) where
+    (trace : IsTraceOfCall st failures kept resumed base first events c) where
   abbrev now : Setting
   now = going_on st base.numbers base.number
 
@@ -166,22 +166,22 @@ module _ (st : Setting) (failures : List FailureAt) (kept : List Entry) (resumed
   last = since st behind.start behind.base
 
   at : IsInCall failures (opened_at kept resumed) now begun [] []
-  at = opened_in st failures kept resumed base first course.opened course.is course.coloured
+  at = opened_in st failures kept resumed base first trace.opened trace.is trace.coloured
 
   last_is : IsSetting last
-  last_is = record { graph = course.is.graph; owner = course.is.owner }
+  last_is = record { graph = trace.is.graph; owner = trace.is.owner }
 
   -- what is so there
   abbrev Leads : Setting → Type 0
   Leads s = (whole : IsWhole s c) × (logged : List Logged) × IsAccounted s c whole logged × IsBased s c logged
 
   ended : Leads last
-  ended = subst Leads (behind_since events now) (courses_go events now at.is begun c at.whole [] course.course at.account at.based)
+  ended = subst Leads (behind_since events now) (traces_go events now at.is begun c at.whole [] trace.trace at.account at.based)
 
   saved_right : SavesRight last (world_of c)
   saved_right =
       subst (λ (s : Setting). SavesRight s (world_of c)) (behind_since events now)
-      (courses_right events now at.is begun c at.whole [] at.account at.based course.course (begins_right st now base first))
+      (traces_right events now at.is begun c at.whole [] at.account at.based trace.trace (begins_right st now base first))
 
   due_last : RecordIsDue st c.coordinator → RecordIsDue last c.coordinator
   due_last due = record { under = due.under; sections = due.sections }
@@ -210,12 +210,12 @@ module _ (st : Setting) (failures : List FailureAt) (kept : List Entry) (resumed
 
   pub tickets_left : c.next + c.left ≡ first.next + first.left
   tickets_left =
-      let call = the_call st failures kept resumed base first events c course in
+      let call = the_call st failures kept resumed base first events c trace in
       let one : EngineCall = call.0 in
       let its : IsCallOf st failures kept resumed c one = call.1 in
-      let tells : TellsOfCall st first.left c one = call.5 in
+      let tells : CallReport st first.left c one = call.5 in
       all_tickets c.next (first_ticket one) (length (made_of one)) c.left first.next first.left its.next tells.spent
-      (course.opened.next ∙ ap ticket_above (sym its.base))
+      (trace.opened.next ∙ ap ticket_above (sym its.base))
 
   drawn_low : c.next ≤ first.next + first.left
   drawn_low = next_low c.next c.left (first.next + first.left) tickets_left

@@ -13,15 +13,15 @@ use Rattle.cluster_laws.specs.cluster_core.Scopes.{is_scope}
 use Rattle.cluster_laws.specs.cluster_core.Settings.{IsSetting}
 use Rattle.whole_laws.specs.cluster_ending.FourWaves.{first_base, fresh_cluster, started_from}
 use Rattle.cluster_laws.specs.cluster_model.Clusters.{Cluster}
-use Rattle.cluster_laws.specs.cluster_model.Events.{IsCourse, Section, after_event, entries_below}
+use Rattle.cluster_laws.specs.cluster_model.Events.{IsTrace, Section, after_event, entries_below}
 use Rattle.cluster_laws.specs.cluster_model.Leading.{Come, RecordIsDue}
 use Rattle.cluster_laws.specs.cluster_model.Totals.{total_from}
 use Rattle.whole_laws.specs.cluster_records.Recorded.{snapshot_due}
 use Rattle.whole_laws.specs.cluster_whole.Windows.{scope_at}
 use Rattle.call_laws.specs.each_saved_once.EdgeSaved.{both_come, both_marked, first_marked, first_marks, one_wants, pair_saves_once, pair_with_store, second_marks, sections_go, one_wanted}
 use Rattle.call_laws.specs.whole_calls.Following.{FollowJob}
-use Rattle.call_laws.specs.whole_calls.Opened.{IsCourseOfCall, IsOpened}
-use Rattle.call_laws.proofs.whole_calls.WorkedPair.{course_append}
+use Rattle.call_laws.specs.whole_calls.Opened.{IsTraceOfCall, IsOpened}
+use Rattle.call_laws.proofs.whole_calls.WorkedPair.{trace_append}
 
 low_one : 0 < 1
 low_one = omega arith
@@ -90,27 +90,27 @@ marked_at_second v low own = second_mark v low own ∙ sym second_known
 
 -- ---- the events
 
-wants_may : IsCourse pair_with_store (started_from pair_with_store) one_wants one_wanted
+wants_may : IsTrace pair_with_store (started_from pair_with_store) one_wants one_wanted
 unfolding first_passing all_passing total_from
 wants_may = ((refl, (record { machine = low_first; runs = refl }, record { may = record { vertex = low_first; owned = refl; due = inr refl; fresh = λ s is. none_flies 0 is; turn = low_one }; room = inr refl })), ((refl, (record { machine = low_first; runs = refl }, record { vertex = low_first; owned = refl; claim = _; behind = _; first = refl; together = λ s mode is. absurd (none_holds mode is) })), ((refl, (record { machine = low_first; runs = refl }, low_second, record { message = _; behind = _; first = refl })), ((refl, (record { machine = low_second; runs = refl }, low_first, record { message = _; behind = _; first = refl })), ((refl, (record { machine = low_second; runs = refl }, record { vertex = low_second; owned = refl; claim = _; behind = _; first = refl; together = λ s mode is. absurd (none_holds mode is) })), ((refl, (record { machine = low_second; runs = refl }, low_first, record { message = _; behind = _; first = refl })), ((refl, (record { machine = low_first; runs = refl }, low_second, record { message = _; behind = _; first = refl })), ((refl, (record { machine = low_first; runs = refl }, record { vertex = _; flight = refl; ready = refl; not_pending = refl; task = refl; ticket = omega arith })), ((refl, (record { machine = low_first; runs = refl }, low_second, record { message = _; behind = _; first = refl })), ((refl, (record { machine = low_second; runs = refl }, low_first, record { message = _; behind = _; first = refl })), ((refl, (record { machine = low_first; runs = refl }, record { message = _; behind = _; first = refl })), ((refl, (low_first, record { message = _; behind = _; first = refl })), refl))))))))))))
 
-first_may : IsCourse pair_with_store one_wanted first_marks first_marked
+first_may : IsTrace pair_with_store one_wanted first_marks first_marked
 unfolding first_passing all_passing total_from
 first_may = ((refl, record { stored = refl; none = refl; wanted = inl refl }), ((refl, (low_first, record { message = _; behind = _; first = refl })), ((refl, (record { machine = low_first; runs = refl }, record { message = _; behind = _; first = refl })), ((refl, (record { machine = low_first; runs = refl }, record { may = record { vertex = low_first; owned = refl; due = inl refl; fresh = λ s is. none_flies 0 (ended (is_scope s (scope_at 0 0)) _ 0 0 is); turn = low_one }; room = inl refl })), ((refl, (record { machine = low_first; runs = refl }, record { vertex = low_first; owned = refl; claim = _; behind = _; first = refl; together = λ s mode is. absurd (none_holds mode (freed (is_scope s (scope_at 0 0)) _ Writer mode is)) })), ((refl, (record { machine = low_first; runs = refl }, low_second, record { message = _; behind = _; first = refl })), ((refl, (record { machine = low_second; runs = refl }, low_first, record { message = _; behind = _; first = refl })), ((refl, (record { machine = low_second; runs = refl }, record { vertex = low_second; owned = refl; claim = _; behind = _; first = refl; together = λ s mode is. absurd (none_holds mode (freed (is_scope s (scope_at 0 0)) _ Reader mode is)) })), ((refl, (record { machine = low_second; runs = refl }, low_first, record { message = _; behind = _; first = refl })), ((refl, (record { machine = low_first; runs = refl }, low_second, record { message = _; behind = _; first = refl })), ((refl, (record { machine = low_first; runs = refl }, record { vertex = _; flight = refl; ready = refl; pending = refl })), ((refl, (record { machine = low_first; runs = refl }, low_second, record { message = _; behind = _; first = refl })), ((refl, (record { machine = low_second; runs = refl }, low_first, record { message = _; behind = _; first = refl })), refl)))))))))))))
 
-second_may : IsCourse pair_with_store first_marked second_marks both_marked
+second_may : IsTrace pair_with_store first_marked second_marks both_marked
 unfolding first_passing all_passing total_from
 second_may = ((refl, (record { machine = low_second; runs = refl }, record { may = record { vertex = low_second; owned = refl; due = inl refl; fresh = λ s is. none_flies 1 is; turn = low_one }; room = inl refl })), ((refl, (record { machine = low_second; runs = refl }, low_first, record { message = _; behind = _; first = refl })), ((refl, (record { machine = low_first; runs = refl }, low_second, record { message = _; behind = _; first = refl })), ((refl, (record { machine = low_first; runs = refl }, record { vertex = low_first; owned = refl; claim = _; behind = _; first = refl; together = λ s mode is. absurd (none_holds mode (freed (is_scope s (scope_at 0 0)) _ Writer mode (freed (is_scope s (scope_at 0 1)) _ Writer mode is))) })), ((refl, (record { machine = low_first; runs = refl }, low_second, record { message = _; behind = _; first = refl })), ((refl, (record { machine = low_second; runs = refl }, low_first, record { message = _; behind = _; first = refl })), ((refl, (record { machine = low_second; runs = refl }, record { vertex = low_second; owned = refl; claim = _; behind = _; first = refl; together = λ s mode is. absurd (none_holds mode (freed (is_scope s (scope_at 0 0)) _ Reader mode (freed (is_scope s (scope_at 0 1)) _ Reader mode is))) })), ((refl, (record { machine = low_second; runs = refl }, record { vertex = _; flight = refl; ready = refl; pending = refl })), refl))))))))
 
-sections_may : IsCourse pair_with_store both_marked sections_go both_come
+sections_may : IsTrace pair_with_store both_marked sections_go both_come
 unfolding first_passing all_passing total_from
 sections_may = ((refl, (record { machine = low_first; runs = refl }, record { begun = low_one; marked = marked_at_first; unsent = low_one })), ((refl, (record { machine = low_second; runs = refl }, record { begun = low_one; marked = marked_at_second; unsent = low_one })), ((refl, (record { machine = low_first; runs = refl }, record { message = _; behind = _; first = refl })), ((refl, (low_first, record { message = _; behind = _; first = refl })), ((refl, (record { machine = low_second; runs = refl }, record { message = _; behind = _; first = refl })), ((refl, (low_second, record { message = _; behind = _; first = refl })), refl))))))
 
-all_may : IsCourse pair_with_store (started_from pair_with_store) pair_saves_once both_come
+all_may : IsTrace pair_with_store (started_from pair_with_store) pair_saves_once both_come
 all_may =
-    course_append one_wants (first_marks ++ (second_marks ++ sections_go)) pair_with_store (started_from pair_with_store) one_wanted both_come wants_may
-    (course_append first_marks (second_marks ++ sections_go) pair_with_store one_wanted first_marked both_come first_may
-    (course_append second_marks sections_go pair_with_store first_marked both_marked both_come second_may sections_may))
+    trace_append one_wants (first_marks ++ (second_marks ++ sections_go)) pair_with_store (started_from pair_with_store) one_wanted both_come wants_may
+    (trace_append first_marks (second_marks ++ sections_go) pair_with_store one_wanted first_marked both_come first_may
+    (trace_append second_marks sections_go pair_with_store first_marked both_marked both_come second_may sections_may))
 
 -- ---- all of it
 
@@ -150,8 +150,8 @@ opened =
 follows : FollowJob pair_with_store [] (started_from pair_with_store) pair_saves_once
 follows = (tt, (tt, (tt, (tt, (tt, (tt, (tt, (refl, (tt, (tt, (tt, (tt, (tt, (tt, (refl, (tt, (tt, (tt, (tt, (tt, (tt, (tt, (tt, (tt, (tt, (tt, (tt, (tt, (tt, (tt, (tt, (tt, (tt, (tt, (tt, (tt, (tt, (tt, (tt, tt)))))))))))))))))))))))))))))))))))))))
 
-pub is_course : IsCourseOfCall pair_with_store [] [] false (first_base pair_with_store) (fresh_cluster pair_with_store) pair_saves_once both_come
-is_course = record { is = setting; coloured = tt; opened = opened; course = all_may; follows = follows }
+pub is_trace : IsTraceOfCall pair_with_store [] [] false (first_base pair_with_store) (fresh_cluster pair_with_store) pair_saves_once both_come
+is_trace = record { is = setting; coloured = tt; opened = opened; trace = all_may; follows = follows }
 
 pub is_due : RecordIsDue pair_with_store both_come.coordinator
 unfolding first_passing all_passing total_from

@@ -23,7 +23,7 @@ use Rattle.cluster_laws.specs.cluster_core.Settings.{Setting}
 use Rattle.cluster_laws.specs.cluster_core.Ways.{vertex_woken}
 use Rattle.cluster_laws.specs.cluster_core.Worlds.{way}
 use Rattle.whole_laws.specs.cluster_ending.Watched.{HasNoTaskLeft}
-use Rattle.whole_laws.proofs.cluster_ending.Courses.{start_followed}
+use Rattle.whole_laws.proofs.cluster_ending.Traces.{start_followed}
 use Rattle.whole_laws.proofs.cluster_ending.Finding.{no_task_left}
 use Rattle.whole_laws.proofs.cluster_ending.Leaving.{none_woken}
 use Rattle.cluster_laws.specs.cluster_model.Clusters.{BaseView, Cluster, report_way}
@@ -49,11 +49,11 @@ use Rattle.seq_run.specs.States.{GraphState}
 use Rattle.call_laws.specs.whole_calls.Called.{IsCallOf, KeepsWindows}
 use Rattle.call_laws.specs.whole_calls.Following.{has_reached}
 use Rattle.call_laws.specs.whole_calls.Lost.{AreLostIn, TakesAway, all_logged, is_lacking, machine_logs}
-use Rattle.call_laws.specs.whole_calls.Opened.{IsCourseOfCall}
+use Rattle.call_laws.specs.whole_calls.Opened.{IsTraceOfCall}
 use Rattle.call_laws.specs.whole_calls.Saved.{AreNextOrders, AreSnapshotsOf, fronts_in, IsSnapshotOf, recorded_at, recorded_in}
-use Rattle.call_laws.specs.whole_calls.Telling.{AsksForNone, HasHalfOutside, HasSavedTheEnd, NeedsMoreStore, TellsOfCall, length_with}
+use Rattle.call_laws.specs.whole_calls.Telling.{AsksForNone, HasHalfOutside, HasSavedTheEnd, NeedsMoreStore, CallReport, length_with}
 use Rattle.call_laws.proofs.whole_calls.Acknowledged.{good_snapshots, pending_is, snapshots_append, snapshots_long}
-use Rattle.call_laws.proofs.whole_calls.Ending.{EndsBehind, GoOnFrom, all_fronted, HasAskedAll, IsEnding, IsPlain, courses_end, which}
+use Rattle.call_laws.proofs.whole_calls.Ending.{EndsBehind, GoOnFrom, all_fronted, HasAskedAll, IsEnding, IsPlain, traces_end, which}
 use Rattle.call_laws.proofs.whole_calls.Fronting.{all_in_turn, next_once, next_orders}
 use Rattle.call_laws.proofs.whole_calls.Going.{IsInCall}
 use Rattle.call_laws.proofs.whole_calls.Holding.{holds_only, told_many}
@@ -251,7 +251,7 @@ module _ (failures : List FailureAt) (kept : List Entry) (resumed : Bool) (numbe
       not_told : false ≡ true → ⊥
       not_told is = cc
 
-  tells : TellsOfCall st budget c made_call
+  tells : CallReport st budget c made_call
   tells =
       record {
         tasks = λ end. none_left (no_task_left st c e.watch e.watched end);
@@ -312,7 +312,7 @@ restart_alone true f = (refl, tt)
 restart_alone false f = tt
 
 module _ (st : Setting) (failures : List FailureAt) (kept : List Entry) (resumed : Bool) (base : BaseView) (first : Cluster) (events : List Event) (c : Cluster)
-    (course : IsCourseOfCall st failures kept resumed base first events c) where
+    (trace : IsTraceOfCall st failures kept resumed base first events c) where
   abbrev now : Setting
   now = going_on st base.numbers base.number
 
@@ -321,9 +321,9 @@ module _ (st : Setting) (failures : List FailureAt) (kept : List Entry) (resumed
 
   opening : IsEnding failures (opened_at kept resumed) kept base.number (ticket_above kept + first.left) now begun [] [] [] 0
   opening =
-      let followed = (start_followed st course.is course.coloured base first [] begun refl).followed in
+      let followed = (start_followed st trace.is trace.coloured base first [] begun refl).followed in
       record {
-        at = opened_in st failures kept resumed base first course.opened course.is course.coloured;
+        at = opened_in st failures kept resumed base first trace.opened trace.is trace.coloured;
         watch = followed.1;
         watched = followed.2;
         late = recovered_late failures st now base first;
@@ -337,7 +337,7 @@ module _ (st : Setting) (failures : List FailureAt) (kept : List Entry) (resumed
         reason = λ under. absurd (not_less base.number under);
         own = begins_own st now base first;
         made_below = tt;
-        tickets = ap (λ (n : ℕ). n + first.left) course.opened.next;
+        tickets = ap (λ (n : ℕ). n + first.left) trace.opened.next;
       }
 
   abbrev last : Setting
@@ -346,7 +346,7 @@ module _ (st : Setting) (failures : List FailureAt) (kept : List Entry) (resumed
   ended : EndsBehind failures (opened_at kept resumed) kept base.number (ticket_above kept + first.left) (since st last.start last.base) c (recorded_in now begun events) (0 + unasked_in now begun events) [] (AreLostIn now begun events) (GoOnFrom (opened_at kept resumed) now begun events [])
   ended =
       subst (λ (s : Setting). EndsBehind failures (opened_at kept resumed) kept base.number (ticket_above kept + first.left) s c (recorded_in now begun events) (0 + unasked_in now begun events) [] (AreLostIn now begun events) (GoOnFrom (opened_at kept resumed) now begun events [])) (behind_since events now)
-      (courses_end failures (opened_at kept resumed) kept base.number (ticket_above kept + first.left) events now begun c [] [] [] 0 opening course.course course.follows)
+      (traces_end failures (opened_at kept resumed) kept base.number (ticket_above kept + first.left) events now begun c [] [] [] 0 opening trace.trace trace.follows)
 
   saved_then : (start : GraphState) (number : ℕ) → HasSavedTheEnd st c.coordinator → HasSavedTheEnd (since st start number) c.coordinator
   saved_then start number is =
@@ -378,7 +378,7 @@ module _ (st : Setting) (failures : List FailureAt) (kept : List Entry) (resumed
       × (st.stored ≡ true → KeepsWindows st failures one)
       × AreSnapshotsOf st base.number kept (recorded_in (going_on st base.numbers base.number) (recovers st base first) events) (snapshots_of one)
       × (0 < half_window st → length (snapshots_of one) + under_way c ≤ first.left / half_window st + 1)
-      × TellsOfCall st first.left c one
+      × CallReport st first.left c one
       × ((lost : List Entry) → AreLostIn (going_on st base.numbers base.number) (recovers st base first) events lost → lost_of one ≡ lost)
       × AreNextOrders st kept (fronts_in (going_on st base.numbers base.number) (recovers st base first) events)
       (recorded_in (going_on st base.numbers base.number) (recovers st base first) events) (snapshots_of one)
@@ -392,11 +392,11 @@ module _ (st : Setting) (failures : List FailureAt) (kept : List Entry) (resumed
       let unasked : ℕ = 0 + unasked_in now begun events in
       let e : IsEnding failures (opened_at kept resumed) kept base.number (ticket_above kept + first.left) last_st c logged failed taken unasked = ended.2 in
       let one : EngineCall = call_with failures kept resumed c logged failed in
-      let in_turn = course.opened.in_turn in
-      let begins = course.opened.begins in
+      let in_turn = trace.opened.in_turn in
+      let begins = trace.opened.begins in
       let are : AreSnapshotsOf st base.number kept taken (snapshots_of one) = orders_are failures kept resumed base.number first.left last_st c logged failed taken unasked e in_turn begins in
       let call_so : IsCallOf st failures kept resumed c one = call_then st last.start last.base failures kept resumed c one (call_of failures kept resumed last_st c logged failed e.at in_turn begins) in
-      let told : TellsOfCall last_st first.left c one = tells failures kept resumed base.number first.left last_st c logged failed taken unasked e in_turn begins in (
+      let told : CallReport last_st first.left c one = tells failures kept resumed base.number first.left last_st c logged failed taken unasked e in_turn begins in (
         one,
         call_so,
         λ stored. windows_then st last.start last.base failures one (windows_are failures kept resumed last_st c logged failed e.at in_turn begins stored),
@@ -404,7 +404,7 @@ module _ (st : Setting) (failures : List FailureAt) (kept : List Entry) (resumed
         λ half.
             subst (λ (n : ℕ). n + under_way c ≤ first.left / half_window st + 1) (sym (snapshots_long st base.number kept taken (snapshots_of one) are ∙ recorded_many events now begun))
             (one_at_most (unasked_in now begun events) (snapshots_in_all events + under_way c) (first.left / half_window st)
-            (by_half (half_window st) (snapshots_in_all events + under_way c) (unasked_in now begun events) first.left half (attempts_few st course.is course.coloured base first events c course.course))
+            (by_half (half_window st) (snapshots_in_all events + under_way c) (unasked_in now begun events) first.left half (attempts_few st trace.is trace.coloured base first events c trace.trace))
             (once_or last_st logged unasked e.once)),
         record { tasks = told.tasks; unharmed = told.unharmed; told = told.told; some = λ stored is. told.some stored (saved_then last.start last.base is); saved = λ stored is. told.saved stored (saved_then last.start last.base is); pending = λ due. let p = told.pending (due_then last.start last.base due) in (p.0, p.1, p.2, p.3, record { updates = p.4.updates; some_vertex = p.4.some_vertex; some_edge = p.4.some_edge; vertices = p.4.vertices; edges = p.4.edges }); full = λ due refused. told.full (due_then last.start last.base due) (room_then last.start last.base refused); many = told.many; unasked = λ none. told.unasked (none_then last.start last.base none); spent = told.spent },
         ended.3,

@@ -17,12 +17,12 @@ use Rattle.cluster_laws.specs.cluster_core.Messages.{Message}
 use Rattle.cluster_laws.specs.cluster_core.Settings.{Setting}
 use Rattle.whole_laws.specs.cluster_ending.Watched.{HasNoTaskLeft, IsWatched, Watch}
 use Rattle.whole_laws.specs.cluster_ending.Ends.{IsNoBegin}
-use Rattle.whole_laws.proofs.cluster_ending.Courses.{event_kept, numbers_after, setting_same, watch_kept}
+use Rattle.whole_laws.proofs.cluster_ending.Traces.{event_kept, numbers_after, setting_same, watch_kept}
 use Rattle.whole_laws.proofs.cluster_ending.Finding.{no_task_left}
 use Rattle.whole_laws.proofs.cluster_ending.Leaving.{done_moved}
 use Rattle.cluster_laws.specs.cluster_model.Calls.{Call, Count, Report, Saved, Want}
 use Rattle.cluster_laws.specs.cluster_model.Clusters.{BaseView, Cluster}
-use Rattle.cluster_laws.specs.cluster_model.Events.{Event, Admit, DeliverCall, DeliverReport, Deliver, Fail, GoesBackTo, Grant, IsCourse, Mark, MayDo, PutBegin, PutStep, PutWave, Record, Recover, Section, Send, SendCall, SendReport, Stop, Update, after_event, delivers_call, delivers_message, delivers_report, failures_in, makes, recovers, saves, sends_call, sends_message, sends_report, setting_after}
+use Rattle.cluster_laws.specs.cluster_model.Events.{Event, Admit, DeliverCall, DeliverReport, Deliver, Fail, GoesBackTo, Grant, IsTrace, Mark, MayDo, PutBegin, PutStep, PutWave, Record, Recover, Section, Send, SendCall, SendReport, Stop, Update, after_event, delivers_call, delivers_message, delivers_report, failures_in, makes, recovers, saves, sends_call, sends_message, sends_report, setting_after}
 use Rattle.cluster_laws.specs.cluster_model.Leading.{HasSeenTheEnd, HoldsAll, Snapshot}
 use Rattle.cluster_laws.specs.cluster_model.Working.{half_window}
 use Rattle.cluster_laws.specs.cluster_runs.Attempts.{Attempt, Beginning, Shared}
@@ -596,11 +596,11 @@ EndsBehind failures start kept number total st c taken unasked before AreLost Ar
 abbrev pub GoOnFrom : Beginning → Setting → Cluster → List Event → List Attempt → List (List Entry) → Type 0
 GoOnFrom start st old events failed all = (fronts : List (List Entry)) × FrontsSoFar start old failed fronts × (all ≡ fronts ++ fronts_in st old events)
 
-pub courses_end : (failures : List FailureAt) (start : Beginning) (kept : List Entry) (number total : ℕ) (events : List Event) (st : Setting) (old last : Cluster) (logged : List Logged) (failed : List Attempt) (taken : List Snapshot) (unasked : ℕ) →
-    IsEnding failures start kept number total st old logged failed taken unasked → IsCourse st old events last → FollowJob st failures old events →
+pub traces_end : (failures : List FailureAt) (start : Beginning) (kept : List Entry) (number total : ℕ) (events : List Event) (st : Setting) (old last : Cluster) (logged : List Logged) (failed : List Attempt) (taken : List Snapshot) (unasked : ℕ) →
+    IsEnding failures start kept number total st old logged failed taken unasked → IsTrace st old events last → FollowJob st failures old events →
     EndsBehind failures start kept number total (setting_behind st events) last (taken ++ recorded_in st old events) (unasked + unasked_in st old events) failed (AreLostIn st old events) (GoOnFrom start st old events failed)
-courses_end failures start kept number total [] st old last logged failed taken unasked e course follow =
-    subst (λ (c : Cluster). EndsBehind failures start kept number total st c (taken ++ []) (unasked + 0) failed (AreLostIn st old []) (GoOnFrom start st old [] failed)) (sym course)
+traces_end failures start kept number total [] st old last logged failed taken unasked e trace follow =
+    subst (λ (c : Cluster). EndsBehind failures start kept number total st c (taken ++ []) (unasked + 0) failed (AreLostIn st old []) (GoOnFrom start st old [] failed)) (sym trace)
     (subst (λ (ss : List Snapshot). EndsBehind failures start kept number total st old ss (unasked + 0) failed (AreLostIn st old []) (GoOnFrom start st old [] failed)) (sym (append-nil taken))
     (subst (λ (n : ℕ). EndsBehind failures start kept number total st old taken n failed (AreLostIn st old []) (GoOnFrom start st old [] failed)) (plus_none unasked) (
       logged,
@@ -609,11 +609,11 @@ courses_end failures start kept number total [] st old last logged failed taken 
       λ lost none. sym (append-nil (lost_in failed)) ∙ ap (λ (es : List Entry). lost_in failed ++ es) (sym none),
       λ fronts go. subst (FrontsSoFar start old failed) (sym (go.2 ∙ append-nil go.0)) go.1,
     )))
-courses_end failures start kept number total (event ∷ events) st old last logged failed taken unasked e course follow =
+traces_end failures start kept number total (event ∷ events) st old last logged failed taken unasked e trace follow =
     let mid : Cluster = after_event st old event in
     let after_it : Setting = setting_after st event in
-    let one = event_ending failures start kept number total st old logged failed taken unasked e event course.0.1 follow.0 in
-    let rest = courses_end failures start kept number total events after_it mid last one.0 one.1 (taken ++ recorded_at old event) (unasked + unasked_at old event) one.2 course.1 follow.1 in
+    let one = event_ending failures start kept number total st old logged failed taken unasked e event trace.0.1 follow.0 in
+    let rest = traces_end failures start kept number total events after_it mid last one.0 one.1 (taken ++ recorded_at old event) (unasked + unasked_at old event) one.2 trace.1 follow.1 in
     let lost_so : (lost : List Entry) → AreLostIn st old (event ∷ events) lost → lost_in rest.1 ≡ lost_in failed ++ lost = λ lost are.
     rest.3 are.1 are.3 ∙ ap (λ (es : List Entry). es ++ are.1) (one.3 are.0 are.2) ∙ append_assoc (lost_in failed) are.0 are.1 ∙ ap (λ (es : List Entry). lost_in failed ++ es) (sym are.4) in
     let fronts_so : (all : List (List Entry)) → GoOnFrom start st old (event ∷ events) failed all → FrontsSoFar start last rest.1 all = λ all go.

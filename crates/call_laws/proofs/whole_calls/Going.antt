@@ -28,7 +28,7 @@ use Rattle.whole_laws.specs.cluster_records.Wanting.{AreAsking}
 use Rattle.whole_laws.proofs.cluster_records.Accounts.{quiet_kept, update_kept}
 use Rattle.whole_laws.proofs.cluster_records.Asking.{events_asking, update_asking}
 use Rattle.whole_laws.proofs.cluster_records.Based.{next_base, still_based, update_based}
-use Rattle.whole_laws.proofs.cluster_records.Courses.{are_coloured, begun}
+use Rattle.whole_laws.proofs.cluster_records.Traces.{are_coloured, begun}
 use Rattle.whole_laws.proofs.cluster_records.Entering.{IsNoUpdate, own_logged, update_logged}
 use Rattle.whole_laws.proofs.cluster_records.Fewness.{begun_asking}
 use Rattle.whole_laws.proofs.cluster_records.Filtering.{all-more, other_entry, own_entry}

@@ -27,7 +27,7 @@ use Rattle.whole_laws.specs.cluster_whole.Views.{world_of}
 use Rattle.whole_laws.specs.cluster_whole.Whole.{AreColoured, setting_behind}
 use Rattle.whole_laws.specs.cluster_records.Bases.{IsBase}
 use Rattle.whole_laws.proofs.cluster_records.Based.{call_numbers, call_tasks}
-use Rattle.whole_laws.proofs.cluster_records.Courses.{begun}
+use Rattle.whole_laws.proofs.cluster_records.Traces.{begun}
 use Rattle.whole_laws.proofs.cluster_records.Fewness.{begun_asking}
 use Rattle.whole_laws.proofs.cluster_records.Numbering.{all_own}
 use Rattle.graph_core.specs.DataGraph.{size}

@@ -10,7 +10,7 @@ use Rattle.cluster_laws.specs.cluster_core.Scopes.{is_scope, set_for}
 use Rattle.cluster_laws.specs.cluster_core.Settings.{Chromatic, Locking}
 use Rattle.whole_laws.specs.cluster_ending.FourWaves.{first_base, fresh_cluster, idle_answer, lone_events, started_from}
 use Rattle.whole_laws.proofs.cluster_ending.WorkedWaves.{lone_setting}
-use Rattle.cluster_laws.specs.cluster_model.Events.{IsCourse, entries_in_all}
+use Rattle.cluster_laws.specs.cluster_model.Events.{IsTrace, entries_in_all}
 use Rattle.cluster_laws.specs.cluster_model.Leading.{Coordinator, HasSeenTheEnd, HoldsAll, Snapshot, SnapshotIsDue, entries_in, updates_told}
 use Rattle.cluster_laws.specs.cluster_model.Totals.{total_from}
 use Rattle.cluster_laws.specs.cluster_model.TwoWaves.{IsIdleAnswer, ShowTheEnd}
@@ -19,9 +19,9 @@ use Rattle.whole_laws.specs.cluster_whole.Windows.{scope_at}
 use Rattle.seq_run.proofs.EachOf.{all_is}
 use Rattle.call_laws.specs.whole_calls.EndSaved.{one_quiet, one_saved, one_saves, one_with_store}
 use Rattle.call_laws.specs.whole_calls.Following.{FollowJob}
-use Rattle.call_laws.specs.whole_calls.Opened.{IsCourseOfCall, IsOpened}
+use Rattle.call_laws.specs.whole_calls.Opened.{IsTraceOfCall, IsOpened}
 use Rattle.call_laws.specs.whole_calls.Telling.{HasSavedTheEnd}
-use Rattle.call_laws.proofs.whole_calls.WorkedPair.{course_append}
+use Rattle.call_laws.proofs.whole_calls.WorkedPair.{trace_append}
 
 low : 0 < 1
 low = omega arith
@@ -107,7 +107,7 @@ none_held x mode s = by_test (is_scope s (scope_at 0 0))
     by_test true is = none_holds mode is
     by_test false is = none_holds mode is
 
-runs_may : IsCourse one_with_store (started_from one_with_store) lone_events one_quiet
+runs_may : IsTrace one_with_store (started_from one_with_store) lone_events one_quiet
 unfolding first_passing all_passing total_from
 runs_may = (
   (refl, (record { machine = low; runs = refl }, record { may = record { vertex = low; owned = refl; due = inr refl; fresh = λ s is. none_some 0 is; turn = low }; room = inr refl })),
@@ -147,7 +147,7 @@ runs_may = (
   ),
 )
 
-saves_may : IsCourse one_with_store one_quiet one_saves one_saved
+saves_may : IsTrace one_with_store one_quiet one_saves one_saved
 unfolding first_passing all_passing total_from
 saves_may = (
   (refl, record { stored = refl; none = refl; wanted = inr (quiet_seen, inr refl) }),
@@ -198,13 +198,13 @@ follows = (
   (tt, (refl, (tt, (tt, (refl, (tt, (tt, (tt, (tt, (refl, (tt, (tt, (tt, (tt, (refl, (tt, (tt, (tt, (tt, (tt, (tt, (tt, tt)))))))))))))))))))))),
 )
 
-pub is_course : IsCourseOfCall one_with_store [] [] false (first_base one_with_store) (fresh_cluster one_with_store) (lone_events ++ one_saves) one_saved
-is_course =
+pub is_trace : IsTraceOfCall one_with_store [] [] false (first_base one_with_store) (fresh_cluster one_with_store) (lone_events ++ one_saves) one_saved
+is_trace =
     record {
       is = record { graph = lone_setting.graph; owner = lone_setting.owner };
       coloured = tt;
       opened = opened;
-      course = course_append lone_events one_saves one_with_store (started_from one_with_store) one_quiet one_saved runs_may saves_may;
+      trace = trace_append lone_events one_saves one_with_store (started_from one_with_store) one_quiet one_saved runs_may saves_may;
       follows = follows;
     }
 

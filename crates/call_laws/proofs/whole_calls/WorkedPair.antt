@@ -8,7 +8,7 @@ use Rattle.graph_core.specs.DataGraph.{DataEdge, IsDataGraph, IsEdge, size}
 use Rattle.cluster_laws.specs.cluster_core.Ranges.{first_passing}
 use Rattle.cluster_laws.specs.cluster_core.Settings.{IsSetting, Setting}
 use Rattle.cluster_laws.specs.cluster_model.Clusters.{Cluster}
-use Rattle.cluster_laws.specs.cluster_model.Events.{DeliverCall, Event, Fail, GoesBackTo, IsCourse, Recover, after_event, setting_after}
+use Rattle.cluster_laws.specs.cluster_model.Events.{DeliverCall, Event, Fail, GoesBackTo, IsTrace, Recover, after_event, setting_after}
 use Rattle.cluster_laws.specs.cluster_model.Machines.{completed}
 use Rattle.cluster_laws.specs.cluster_model.Totals.{total_from}
 use Rattle.cluster_laws.specs.cluster_places.Steps.{AreApart}
@@ -18,15 +18,15 @@ use Rattle.whole_laws.proofs.cluster_records.PairSaved.{again_may, saves_may, up
 use Rattle.whole_laws.specs.cluster_whole.Whole.{setting_behind}
 use Rattle.std.proofs.lemmas.List.Elements.{All-from_recursion}
 use Rattle.call_laws.specs.whole_calls.Following.{FollowJob, FollowsJob, has_reached}
-use Rattle.call_laws.specs.whole_calls.Opened.{IsCourseOfCall, IsOpened}
-use Rattle.call_laws.specs.whole_calls.PairAgain.{pair_again, pair_course, pair_failed, pair_failures, pair_kept, pair_second, pair_twice}
+use Rattle.call_laws.specs.whole_calls.Opened.{IsTraceOfCall, IsOpened}
+use Rattle.call_laws.specs.whole_calls.PairAgain.{pair_again, pair_trace, pair_failed, pair_failures, pair_kept, pair_second, pair_twice}
 use Rattle.call_laws.specs.whole_calls.Saved.{recorded_in}
 
 -- ---- one list of events behind another
 
-pub course_append : (xs ys : List Event) (st : Setting) (a b c : Cluster) → IsCourse st a xs b → IsCourse (setting_behind st xs) b ys c → IsCourse st a (xs ++ ys) c
-course_append [] ys st a b c one other = subst (λ (x : Cluster). IsCourse st x ys c) one other
-course_append (x ∷ xs) ys st a b c one other = (one.0, course_append xs ys (setting_after st x) (after_event st a x) b c one.1 other)
+pub trace_append : (xs ys : List Event) (st : Setting) (a b c : Cluster) → IsTrace st a xs b → IsTrace (setting_behind st xs) b ys c → IsTrace st a (xs ++ ys) c
+trace_append [] ys st a b c one other = subst (λ (x : Cluster). IsTrace st x ys c) one other
+trace_append (x ∷ xs) ys st a b c one other = (one.0, trace_append xs ys (setting_after st x) (after_event st a x) b c one.1 other)
 
 pub follow_append : (failures : List FailureAt) (xs ys : List Event) (st : Setting) (a : Cluster) → FollowJob st failures a xs → FollowJob (setting_behind st xs) failures (after_events st xs a) ys → FollowJob st failures a (xs ++ ys)
 follow_append failures [] ys st a one other = other
@@ -111,7 +111,7 @@ opened =
 
 -- ---- the second update, the failure and the recovery
 
-second_may : IsCourse pair_alone pair_saved pair_second pair_twice
+second_may : IsTrace pair_alone pair_saved pair_second pair_twice
 unfolding first_passing total_from
 second_may = (
   (refl, again_may),
@@ -134,15 +134,15 @@ back_may =
     one_two : 1 ≤ 2
     one_two = omega arith
 
-last_may : IsCourse pair_alone pair_twice (Fail 0 ∷ Recover pair_kept ∷ []) pair_again
+last_may : IsTrace pair_alone pair_twice (Fail 0 ∷ Recover pair_kept ∷ []) pair_again
 unfolding first_passing total_from
 last_may = ((refl, record { machine = low; runs = refl }), ((refl, back_may), refl))
 
-course_is : IsCourse pair_alone pair_at_first pair_course pair_again
-course_is =
-    course_append pair_updates (pair_saves ++ (pair_second ++ (Fail 0 ∷ Recover pair_kept ∷ []))) pair_alone pair_at_first pair_updated pair_again updates_may
-    (course_append pair_saves (pair_second ++ (Fail 0 ∷ Recover pair_kept ∷ [])) pair_alone pair_updated pair_saved pair_again saves_may
-    (course_append pair_second (Fail 0 ∷ Recover pair_kept ∷ []) pair_alone pair_saved pair_twice pair_again second_may last_may))
+trace_is : IsTrace pair_alone pair_at_first pair_trace pair_again
+trace_is =
+    trace_append pair_updates (pair_saves ++ (pair_second ++ (Fail 0 ∷ Recover pair_kept ∷ []))) pair_alone pair_at_first pair_updated pair_again updates_may
+    (trace_append pair_saves (pair_second ++ (Fail 0 ∷ Recover pair_kept ∷ [])) pair_alone pair_updated pair_saved pair_again saves_may
+    (trace_append pair_second (Fail 0 ∷ Recover pair_kept ∷ []) pair_alone pair_saved pair_twice pair_again second_may last_may))
 
 -- ---- it follows the job
 
@@ -169,13 +169,13 @@ last_follows : FollowJob pair_alone pair_failures pair_twice (Fail 0 ∷ Recover
 unfolding first_passing total_from
 last_follows = (refl, (one_alone _ (λ reached. refl), tt))
 
-pub is_course : IsCourseOfCall pair_alone pair_failures [] false pair_base pair_cluster pair_course pair_again
-is_course =
+pub is_trace : IsTraceOfCall pair_alone pair_failures [] false pair_base pair_cluster pair_trace pair_again
+is_trace =
     record {
       is = setting_is;
       coloured = coloured;
       opened = opened;
-      course = course_is;
+      trace = trace_is;
       follows =
           follow_append pair_failures pair_updates (pair_saves ++ (pair_second ++ (Fail 0 ∷ Recover pair_kept ∷ []))) pair_alone pair_at_first updates_follow
           (follow_append pair_failures pair_saves (pair_second ++ (Fail 0 ∷ Recover pair_kept ∷ [])) pair_alone pair_updated saves_follow
@@ -184,7 +184,7 @@ is_course =
 
 -- ---- what it leads to
 
-pub recorded_once : length (recorded_in pair_alone pair_at_first pair_course) ≡ 1
+pub recorded_once : length (recorded_in pair_alone pair_at_first pair_trace) ≡ 1
 recorded_once = refl
 
 pub reached_two : (has_reached pair_failures pair_twice 0 ≡ true) × (FollowsJob pair_alone pair_failures pair_twice (DeliverCall 0) → ⊥)

@@ -7,7 +7,7 @@ use Rattle.call_laws.specs.attempts.EngineCalls.{IsOrderInTurn, ticket_above}
 use Rattle.cluster_laws.specs.cluster_core.Recovering.{going_on}
 use Rattle.cluster_laws.specs.cluster_core.Settings.{IsSetting, Setting}
 use Rattle.cluster_laws.specs.cluster_model.Clusters.{BaseView, Cluster}
-use Rattle.cluster_laws.specs.cluster_model.Events.{Event, IsCourse, recovers}
+use Rattle.cluster_laws.specs.cluster_model.Events.{Event, IsTrace, recovers}
 use Rattle.cluster_laws.specs.cluster_model.Machines.{completed}
 use Rattle.whole_laws.specs.cluster_records.Recorded.{HaveSameNumbers}
 use Rattle.cluster_laws.specs.cluster_runs.Recorded.{shared_of}
@@ -28,9 +28,9 @@ pub record IsOpened (st : Setting) (failures : List FailureAt) (kept : List Entr
   pub done : (a : ℕ) → completed (first.machine a) ≡ 0
 
 -- These events lead from the opening of the call to this cluster, and follow the job.
-pub record IsCourseOfCall (st : Setting) (failures : List FailureAt) (kept : List Entry) (resumed : Bool) (base : BaseView) (first : Cluster) (events : List Event) (c : Cluster) : Type 0 where
+pub record IsTraceOfCall (st : Setting) (failures : List FailureAt) (kept : List Entry) (resumed : Bool) (base : BaseView) (first : Cluster) (events : List Event) (c : Cluster) : Type 0 where
   pub is : IsSetting st
   pub coloured : AreColoured st st.engine
   pub opened : IsOpened st failures kept resumed base first
-  pub course : IsCourse (going_on st base.numbers base.number) (recovers st base first) events c
+  pub trace : IsTrace (going_on st base.numbers base.number) (recovers st base first) events c
   pub follows : FollowJob (going_on st base.numbers base.number) failures (recovers st base first) events

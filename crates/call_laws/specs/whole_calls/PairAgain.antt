@@ -30,8 +30,8 @@ abbrev pub pair_kept : BaseView
 pair_kept = record { number = 1; order = pair_entry ∷ Restart 2 ∷ []; numbers = newest_of pair_alone pair_saved.coordinator.snapshots pair_alone.start }
 
 -- all of it
-abbrev pub pair_course : List Event
-pair_course = pair_updates ++ (pair_saves ++ (pair_second ++ (Fail 0 ∷ Recover pair_kept ∷ [])))
+abbrev pub pair_trace : List Event
+pair_trace = pair_updates ++ (pair_saves ++ (pair_second ++ (Fail 0 ∷ Recover pair_kept ∷ [])))
 
 -- where the next attempt begins
 abbrev pub pair_again : Cluster

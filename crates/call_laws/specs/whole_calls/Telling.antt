@@ -70,7 +70,7 @@ LacksNoSnapshot st c call = 0 < half_window st → 4096 ≤ c.acknowledged → H
 -- ---- all of it
 
 -- What is so of a call with this budget by what its coordinator and its tickets tell.
-pub record TellsOfCall (st : Setting) (budget : ℕ) (c : Cluster) (call : EngineCall) : Type 0 where
+pub record CallReport (st : Setting) (budget : ℕ) (c : Cluster) (call : EngineCall) : Type 0 where
   -- where the waves have shown the end no task is left after the call's order, and no failure was reached in its last attempt
   pub tasks : HasSeenTheEnd c.coordinator → (u : ℕ) → u < size st.graph → tasks_after st.graph st.program (call_order call) u ≡ false
   pub unharmed : HasSeenTheEnd c.coordinator → call.last.struck ≡ 0

@@ -7,7 +7,7 @@ ghost use Rattle.gl_base.specs.declared.jobs.FailureAt.{FailureAt};
 ghost use Rattle.call_laws.specs.attempts.EngineCalls.{EngineCall, IsEngineCall, call_order, done_of, lost_of, made_of};
 ghost use Rattle.call_laws.specs.attempts.Stores.{snapshots_of};
 ghost use Rattle.call_laws.specs.call_answers.Answers.{IsRunWithFailures, KeepsToWindow, RunLists, Shared, reached_places};
-ghost use Rattle.call_laws.specs.call_answers.Courses.{ListsOfCourse};
+ghost use Rattle.call_laws.specs.call_answers.Traces.{ListsOfTrace};
 ghost use Rattle.call_laws.specs.call_answers.Ends.{FinishesRun, SpendsRun};
 ghost use Rattle.cluster_laws.specs.cluster_core.Recovering.{going_on};
 ghost use Rattle.cluster_laws.specs.cluster_core.Replays.{IsTask};
@@ -22,9 +22,9 @@ ghost use Rattle.graph_core.specs.DataGraph.{size};
 ghost use Rattle.cluster_laws.specs.merged_logs.Merges.{IsByMachineBelow};
 ghost use Rattle.call_laws.specs.whole_calls.Called.{IsCallOf};
 ghost use Rattle.call_laws.specs.whole_calls.Following.{has_reached};
-ghost use Rattle.call_laws.specs.whole_calls.Opened.{IsCourseOfCall};
+ghost use Rattle.call_laws.specs.whole_calls.Opened.{IsTraceOfCall};
 ghost use Rattle.call_laws.specs.whole_calls.Saved.{AreNextOrders, AreSnapshotsOf, fronts_in, recorded_in};
-ghost use Rattle.call_laws.specs.whole_calls.Telling.{HasSavedTheEnd, TellsOfCall};
+ghost use Rattle.call_laws.specs.whole_calls.Telling.{HasSavedTheEnd, CallReport};
 
 /// The lists of a call of attempts are those of a run with failures. The failures of its last
 /// attempt that were reached go unanswered.
@@ -43,11 +43,11 @@ pub fn calls_are_runs()
 /// snapshots that were acknowledged. Where the waves have shown the end and no snapshot is due, the
 /// run is finished; and where no ticket is left and no failure was reached, it is spent at each
 /// task. There is a call of attempts of which all of this holds at once.
-pub fn courses_are_runs()
+pub fn traces_are_runs()
     ensures { (st : Setting) (failures : List FailureAt) (kept : List Entry) (resumed : Bool)
         (base : BaseView) (first : Cluster) (events : List Event) (c : Cluster)
-        (lists : RunLists) → IsCourseOfCall st failures kept resumed base first events c →
-        ListsOfCourse st failures base first events c lists →
+        (lists : RunLists) → IsTraceOfCall st failures kept resumed base first events c →
+        ListsOfTrace st failures base first events c lists →
         (call : EngineCall)
         × IsCallOf st failures kept resumed c call
         × IsRunWithFailures (shared_of st failures) st.machines kept resumed call.last.struck lists
@@ -63,7 +63,7 @@ pub fn courses_are_runs()
         × (0 < half_window st →
         length (snapshots_of call) + under_way c ≤ first.left / half_window st + 1)
         × (sum_by (λ count. count) lists.done + c.left ≡ first.left)
-        × TellsOfCall st first.left c call
+        × CallReport st first.left c call
         × (st.stored ≡ true → HasSavedTheEnd st c.coordinator →
         FinishesRun true (shared_of st failures) kept (snapshots_of call) call.last.struck lists)
         × ((left : ℕ) → c.left ≡ 0 →

@@ -11,7 +11,7 @@ ghost use Rattle.call_laws.specs.cluster_attempts.CallsSoFar.{IsCallSoFar, attem
 ghost use Rattle.call_laws.specs.cluster_attempts.Failures.{KeepToJob};
 ghost use Rattle.cluster_laws.specs.cluster_core.Settings.{IsSetting, Setting};
 ghost use Rattle.cluster_laws.specs.cluster_model.Clusters.{BaseView, Cluster};
-ghost use Rattle.cluster_laws.specs.cluster_model.Events.{Event, IsCourse, recovers};
+ghost use Rattle.cluster_laws.specs.cluster_model.Events.{Event, IsTrace, recovers};
 ghost use Rattle.cluster_laws.specs.cluster_model.Machines.{completed};
 ghost use Rattle.whole_laws.specs.cluster_records.Bases.{IsBased};
 ghost use Rattle.whole_laws.specs.cluster_records.Recorded.{IsAccounted};
@@ -23,14 +23,14 @@ ghost use Rattle.whole_laws.specs.cluster_whole.Whole.{IsWhole, setting_behind};
 /// another: each failed one reached a failure and the next one began with what its newest snapshot
 /// had and a restart for each failure, and the last one is what the cluster has made since. The
 /// premises are that machines fail at each recovery as the job orders, and stop there.
-pub fn courses_are_attempts()
+pub fn traces_are_attempts()
     ensures begins { (st : Setting) (failures : List FailureAt) (b : Beginning)
         (base : BaseView) (c : Cluster) →
         base.order ≡ b.front → c.next ≡ b.next → ((a : ℕ) → completed (c.machine a) ≡ b.done a) →
         IsCallSoFar (shared_of st failures) b (recovers st base c) [] [] }
     ensures goes_on { (st : Setting) (failures : List FailureAt) (b : Beginning)
         (events : List Event) (old new : Cluster) (whole : IsWhole st old) (logged : List Logged)
-        (failed : List Attempt) → IsSetting st → IsCourse st old events new →
+        (failed : List Attempt) → IsSetting st → IsTrace st old events new →
         IsAccounted st old whole logged → IsBased st old logged →
         IsCallSoFar (shared_of st failures) b old logged failed → KeepToJob st failures old events →
         (next : IsWhole (setting_behind st events) new) × (now : List Logged)

@@ -8,8 +8,8 @@ ghost use Rattle.whole_laws.specs.cluster_records.Few.{unasked_in};
 ghost use Rattle.whole_laws.specs.cluster_records.LonePair.{pair_alone, pair_at_first, pair_base, pair_cluster};
 ghost use Rattle.call_laws.specs.whole_calls.EndSaved.{one_saved, one_saves, one_with_store};
 ghost use Rattle.call_laws.specs.whole_calls.Following.{FollowsJob, has_reached};
-ghost use Rattle.call_laws.specs.whole_calls.Opened.{IsCourseOfCall};
-ghost use Rattle.call_laws.specs.whole_calls.PairAgain.{pair_again, pair_course, pair_failed, pair_failures, pair_twice};
+ghost use Rattle.call_laws.specs.whole_calls.Opened.{IsTraceOfCall};
+ghost use Rattle.call_laws.specs.whole_calls.PairAgain.{pair_again, pair_trace, pair_failed, pair_failures, pair_twice};
 ghost use Rattle.call_laws.specs.whole_calls.Saved.{recorded_in};
 ghost use Rattle.call_laws.specs.whole_calls.Telling.{HasSavedTheEnd};
 
@@ -18,9 +18,9 @@ ghost use Rattle.call_laws.specs.whole_calls.Telling.{HasSavedTheEnd};
 /// count, and may hear nothing more. It fails, and all go back to the snapshot. The premises of the
 /// law of calls are met: one snapshot was acknowledged, and two of the three tickets were drawn.
 pub fn a_call_that_goes_back()
-    ensures premises { IsCourseOfCall pair_alone pair_failures [] false pair_base pair_cluster
-        pair_course pair_again }
-    ensures recorded { length (recorded_in pair_alone pair_at_first pair_course) ≡ 1 }
+    ensures premises { IsTraceOfCall pair_alone pair_failures [] false pair_base pair_cluster
+        pair_trace pair_again }
+    ensures recorded { length (recorded_in pair_alone pair_at_first pair_trace) ≡ 1 }
     ensures reached { (has_reached pair_failures pair_twice 0 ≡ true) ×
         (FollowsJob pair_alone pair_failures pair_twice (DeliverCall 0) → ⊥) }
     ensures failed { ((pair_failed.machine 0).failed ≡ true) ×
@@ -33,7 +33,7 @@ pub fn a_call_that_goes_back()
 /// a snapshot. Two waves show the end, and the coordinator begins a snapshot that no machine asked
 /// for; when that is acknowledged no other is due.
 pub fn a_snapshot_for_the_end()
-    ensures premises { IsCourseOfCall one_with_store [] [] false (first_base one_with_store)
+    ensures premises { IsTraceOfCall one_with_store [] [] false (first_base one_with_store)
         (fresh_cluster one_with_store) (lone_events ++ one_saves) one_saved }
     ensures unasked { unasked_in one_with_store (started_from one_with_store)
         (lone_events ++ one_saves) ≡ 1 }

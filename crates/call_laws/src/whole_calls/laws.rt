@@ -21,9 +21,9 @@ ghost use Rattle.whole_laws.specs.cluster_records.Few.{under_way};
 ghost use Rattle.call_laws.specs.whole_calls.Called.{IsCallOf, KeepsWindows};
 ghost use Rattle.call_laws.specs.whole_calls.Following.{has_reached};
 ghost use Rattle.call_laws.specs.whole_calls.Lost.{AreLostIn, TakesAway, all_logged, is_lacking, machine_logs};
-ghost use Rattle.call_laws.specs.whole_calls.Opened.{IsCourseOfCall};
+ghost use Rattle.call_laws.specs.whole_calls.Opened.{IsTraceOfCall};
 ghost use Rattle.call_laws.specs.whole_calls.Saved.{AreNextOrders, AreSnapshotsOf, fronts_in, recorded_in};
-ghost use Rattle.call_laws.specs.whole_calls.Telling.{TellsOfCall};
+ghost use Rattle.call_laws.specs.whole_calls.Telling.{CallReport};
 
 /// Every list of events from the opening of a call on, with failures and recoveries among them,
 /// makes a call: attempts that failed, one after another, and a last one. Where snapshots are
@@ -31,10 +31,10 @@ ghost use Rattle.call_laws.specs.whole_calls.Telling.{TellsOfCall};
 /// call, each with its numbers and with what it has more than the one before; and they are at most
 /// one more than halves of the window go into the budget. What waves and tickets tell is so of the
 /// call. What the recoveries took away is what the call lost.
-pub fn courses_are_calls()
+pub fn traces_are_calls()
     ensures { (st : Setting) (failures : List FailureAt) (kept : List Entry) (resumed : Bool)
         (base : BaseView) (first : Cluster) (events : List Event) (c : Cluster) →
-        IsCourseOfCall st failures kept resumed base first events c →
+        IsTraceOfCall st failures kept resumed base first events c →
         (call : EngineCall)
         × IsCallOf st failures kept resumed c call
         × (st.stored ≡ true → KeepsWindows st failures call)
@@ -43,7 +43,7 @@ pub fn courses_are_calls()
         (snapshots_of call)
         × (0 < half_window st →
         length (snapshots_of call) + under_way c ≤ first.left / half_window st + 1)
-        × TellsOfCall st first.left c call
+        × CallReport st first.left c call
         × ((lost : List Entry) →
         AreLostIn (going_on st base.numbers base.number) (recovers st base first) events lost →
         lost_of call ≡ lost)
@@ -70,7 +70,7 @@ pub fn recoveries_may_come()
     ensures { (st : Setting) (failures : List FailureAt) (kept : List Entry) (resumed : Bool)
         (base : BaseView) (first : Cluster) (events : List Event) (c : Cluster)
         (orders : List (List Entry)) (missing : List Entry) →
-        IsCourseOfCall st failures kept resumed base first events c → 0 < failures_in st c →
+        IsTraceOfCall st failures kept resumed base first events c → 0 < failures_in st c →
         ((a : ℕ) → a < st.machines → has_reached failures c a ≡ true →
         (c.machine a).failed ≡ true) →
         AreNextOrders st kept
@@ -93,7 +93,7 @@ pub fn losses_are_lacking()
     ensures { (st : Setting) (failures : List FailureAt) (kept : List Entry) (resumed : Bool)
         (base : BaseView) (first : Cluster) (events : List Event) (c : Cluster)
         (to : BaseView) (merged : List Entry) →
-        IsCourseOfCall st failures kept resumed base first events c →
+        IsTraceOfCall st failures kept resumed base first events c →
         GoesBackTo (setting_behind (going_on st base.numbers base.number) events) c to →
         IsMerge (all_logged (machine_logs st.machines c)) merged →
         TakesAway (setting_behind (going_on st base.numbers base.number) events) c to

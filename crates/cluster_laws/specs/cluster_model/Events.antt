@@ -239,6 +239,6 @@ setting_after st (Fail a) = st
 setting_after st Stop = st
 
 -- these events, one after another, lead from one cluster to another
-abbrev pub IsCourse : Setting → Cluster → List Event → Cluster → Type 0
-IsCourse st old [] new = new ≡ old
-IsCourse st old (event ∷ events) new = MayOccur st old event × IsCourse (setting_after st event) (after_event st old event) events new
+abbrev pub IsTrace : Setting → Cluster → List Event → Cluster → Type 0
+IsTrace st old [] new = new ≡ old
+IsTrace st old (event ∷ events) new = MayOccur st old event × IsTrace (setting_after st event) (after_event st old event) events new

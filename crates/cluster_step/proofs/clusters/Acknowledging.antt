@@ -22,19 +22,19 @@ pub ready_so : {M : Type 0} (p : Parts M) (r : Result Record Refused) → p.stop
 ready_so p (Ok made) runs ready = record { runs = runs; ready = ready }
 ready_so p (Err refused) runs ready = tt
 
-module _ {M : Type 0} (stands : Setting → ℕ → Machine → M → Type 0) (old : Parts M) (k : ℕ) (ready : IsReadyToAcknowledge old k) (next : CoordinatorView) (has : HasRecorded old.coordinator next) where
-  pub acknowledged_so : TakesPlace stands old (event.Lead lead.Record) (record old { coordinator = next })
+module _ {M : Type 0} (represents : Setting → ℕ → Machine → M → Type 0) (old : Parts M) (k : ℕ) (ready : IsReadyToAcknowledge old k) (next : CoordinatorView) (has : HasRecorded old.coordinator next) where
+  pub acknowledged_so : TakesPlace represents old (event.Lead lead.Record) (record old { coordinator = next })
   acknowledged_so st c setting of =
-      let may : law.MayOccur st c law.Record = (going stands old ready.runs st c of, may_record_now st old.coordinator k c setting.stored of.coordinator ready.ready) in
+      let may : law.MayOccur st c law.Record = (going represents old ready.runs st c of, may_record_now st old.coordinator k c setting.stored of.coordinator ready.ready) in
       record {
         event = law.Record;
         is = refl;
         may = may;
-        after = led_made stands st setting old c of law.Record may (λ base is. cc) next (acknowledges st c.coordinator) (has st c.coordinator of.coordinator) refl;
+        after = led_made represents st setting old c of law.Record may (λ base is. cc) next (acknowledges st c.coordinator) (has st c.coordinator of.coordinator) refl;
       }
 
 -- some cluster stands behind it
-pub some_behind : {M : Type 0} (stands : Setting → ℕ → Machine → M → Type 0) (old new : Parts M) → StandsForSaving stands old → TakesPlace stands old (event.Lead lead.Record) new → StandsForSaving stands new
-some_behind stands old new some made =
+pub some_behind : {M : Type 0} (represents : Setting → ℕ → Machine → M → Type 0) (old new : Parts M) → StandsForSaving represents old → TakesPlace represents old (event.Lead lead.Record) new → StandsForSaving represents new
+some_behind represents old new some made =
     let has = made some.0 some.1 some.2 some.3 in
     (some.0, law.after_event some.0 some.1 has.event, some.2, has.after)

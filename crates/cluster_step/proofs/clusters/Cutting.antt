@@ -89,7 +89,7 @@ entries_push st (snapshot ∷ snapshots) last =
 
 -- ---- cuts
 
-module _ {M : Type 0} (stands : Setting → ℕ → Machine → M → Type 0) (p : Parts M) (st : Setting) (c : Cluster) (setting : IsSnapSetting st) (of : IsSavingClusterOf stands st p c) where
+module _ {M : Type 0} (represents : Setting → ℕ → Machine → M → Type 0) (p : Parts M) (st : Setting) (c : Cluster) (setting : IsSnapSetting st) (of : IsSavingClusterOf represents st p c) where
   module _ (good : HasGoodBase st c) where
     abbrev before : GraphState
     before = replay st.graph st.program c.base.order
@@ -189,10 +189,10 @@ module _ {M : Type 0} (stands : Setting → ℕ → Machine → M → Type 0) (p
       left_finished st setting.is c of.going.followed.0 (no_task_left st c of.going.followed.1 of.going.followed.2 seen)
 
 -- what is recorded is a cut in each cluster
-pub record_cuts : {M : Type 0} (stands : Setting → ℕ → Machine → M → Type 0) (p : Parts M) (r : Result Record Refused) → OnOk r (MayLeadRecord p.coordinator) → IfOk r (IsRecordDueOf p.coordinator) →
-    IfOk r (λ made. InEachCluster stands p (λ st c. RecordsCut st c made))
-record_cuts stands p (Ok made) may is = λ st c setting of. record_cut stands p st c setting of (may st c of.coordinator).0 made (is st c.coordinator of.coordinator)
-record_cuts stands p (Err refused) may is = tt
+pub record_cuts : {M : Type 0} (represents : Setting → ℕ → Machine → M → Type 0) (p : Parts M) (r : Result Record Refused) → OnOk r (MayLeadRecord p.coordinator) → IfOk r (IsRecordDueOf p.coordinator) →
+    IfOk r (λ made. InEachCluster represents p (λ st c. RecordsCut st c made))
+record_cuts represents p (Ok made) may is = λ st c setting of. record_cut represents p st c setting of (may st c of.coordinator).0 made (is st c.coordinator of.coordinator)
+record_cuts represents p (Err refused) may is = tt
 
 -- ---- where it begins
 
@@ -214,11 +214,11 @@ none_calls messages none = subst (λ (ms : List MessageView). AreCalls ms []) (s
 none_reports : (messages : List MessageView) → messages ≡ [] → AreReports messages []
 none_reports messages none = subst (λ (ms : List MessageView). AreReports ms []) (sym none) tt
 
-module _ {M : Type 0} (stands : Setting → ℕ → Machine → M → Type 0) (p : Parts M) (engine : Engine) (store : StoreView) (next left : ℕ)
+module _ {M : Type 0} (represents : Setting → ℕ → Machine → M → Type 0) (p : Parts M) (engine : Engine) (store : StoreView) (next left : ℕ)
     (have : HaveLinks p.links (suc (length p.machines.items))) (none : (a b : ℕ) → (link_between p.links a b).messages ≡ []) (few : next + left < 2 ^ 64) (small : length p.machines.items < 65535)
     (leads : IsFirstWith (length p.machines.items) engine store p.coordinator) (awake : (a : ℕ) → slice_index_or p.failed.items a false ≡ false) (flags : length p.failed.items ≡ length p.machines.items) (next_is : p.next ≡ next) (left_is : p.left ≡ left) where
-  pub begun_first : (runs : p.stopped ≡ false) (st : Setting) (base : BaseView) (before : Cluster) → StartsSaving stands p.machines.items engine store next left st base before →
-      IsSavingClusterOf stands (going_on st base.numbers base.number) p (recovers st base before)
+  pub begun_first : (runs : p.stopped ≡ false) (st : Setting) (base : BaseView) (before : Cluster) → StartsSaving represents p.machines.items engine store next left st base before →
+      IsSavingClusterOf represents (going_on st base.numbers base.number) p (recovers st base before)
   begun_first runs st base before start =
       let now : Setting = going_on st base.numbers base.number in
       let first : IsCoordinatorOf now p.coordinator (first_coordinator now store.newest store.store_end) =
@@ -245,14 +245,14 @@ module _ {M : Type 0} (stands : Setting → ℕ → Machine → M → Type 0) (p
 
 -- ---- after an event
 
-module _ {M : Type 0} (stands : Setting → ℕ → Machine → M → Type 0) (old : Parts M) (some : StandsForSaving stands old) (what : Event) where
-  pub some_after : (r : Result (Unit {0}) Refused) (new : Parts M) → AnswersEvent stands old what r new → StandsForSaving stands new
+module _ {M : Type 0} (represents : Setting → ℕ → Machine → M → Type 0) (old : Parts M) (some : StandsForSaving represents old) (what : Event) where
+  pub some_after : (r : Result (Unit {0}) Refused) (new : Parts M) → AnswersEvent represents old what r new → StandsForSaving represents new
   some_after (Ok u) new answers =
       let has = answers.made some.0 some.1 some.2 some.3 in
       (some.0, after_event some.0 some.1 has.event, some.2, has.after)
   some_after (Err e) new answers = (some.0, some.1, some.2, answers.unchanged some.0 some.1 some.2 some.3)
 
-  pub many_after : (r : Result (Unit {0}) Refused) (new : Parts M) → AnswersEvent stands old what r new → length new.machines.items ≡ length old.machines.items
+  pub many_after : (r : Result (Unit {0}) Refused) (new : Parts M) → AnswersEvent represents old what r new → length new.machines.items ≡ length old.machines.items
   many_after (Ok u) new answers =
       let has = answers.made some.0 some.1 some.2 some.3 in
       has.after.many ∙ sym some.3.many

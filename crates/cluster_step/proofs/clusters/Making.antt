@@ -24,7 +24,7 @@ use Rattle.coordinator.specs.coord_core.Calls.{IsHandedOver}
 use Rattle.coordinator.specs.coord_core.Coordinators.{CoordinatorView, IsCoordinatorOf}
 use Rattle.coordinator.proofs.coord_core.LeadLemmas.{calls_push}
 use Rattle.cluster_step.specs.clusters.Clusters.{AreCalls, AreReports, Cluster, HaveLinks, IsSavingClusterOf, IsGoing, IsSnapSetting, Machine, Parts, Setting, messages_on, told_on}
-use Rattle.coordinator.specs.machine_api.Promises.{Admit, Deed, Grant, IsReporting, SendsItsFirst, Mark, MayBeDone, MessageView, Section, Update, does, message_view, told_by}
+use Rattle.coordinator.specs.machine_api.Promises.{Admit, Deed, Grant, IsReporting, SendsItsFirst, Mark, MayBeDone, MessageView, Section, Update, does, message_view, view_of}
 use Rattle.coordinator.specs.machine_api.Deeds.{marks_centre, updates_centre}
 use Rattle.cluster_step.proofs.clusters.Goings.{going_after}
 use Rattle.cluster_step.proofs.clusters.Lines.{ChangesLine, line_kept, reports_push, told_set, told_still}
@@ -159,12 +159,12 @@ module _ (st : Setting) (c : Cluster) (a : ℕ) (awake : law.IsAwake st c a) whe
 
 -- ---- the code
 
-module _ {M : Type 0} (stands : Setting → ℕ → Machine → M → Type 0) (st : Setting) (setting : IsSnapSetting st) (old : Parts M) (c : Cluster) (of : IsSavingClusterOf stands st old c) where
+module _ {M : Type 0} (represents : Setting → ℕ → Machine → M → Type 0) (st : Setting) (setting : IsSnapSetting st) (old : Parts M) (c : Cluster) (of : IsSavingClusterOf represents st old c) where
   pub is_awake : (a : ℕ) → a < st.machines → slice_index_or old.failed.items a false ≡ false → law.IsAwake st c a
   is_awake a low awake = record { machine = low; runs = of.runs a low ∙ awake }
 
-  pub machine_here : (a : ℕ) → a < st.machines → (x : M) → x ≡ get_or old.machines.items a x → stands st a (c.machine a) x
-  machine_here a low x is = subst (stands st a (c.machine a)) (sym is) (of.machines a x low)
+  pub machine_here : (a : ℕ) → a < st.machines → (x : M) → x ≡ get_or old.machines.items a x → represents st a (c.machine a) x
+  machine_here a low x is = subst (represents st a (c.machine a)) (sym is) (of.machines a x low)
 
   inside : (a : ℕ) → a < st.machines → a < length old.machines.items
   inside a low = subst (λ (n : ℕ). a < n) (sym of.many) low
@@ -176,19 +176,19 @@ module _ {M : Type 0} (stands : Setting → ℕ → Machine → M → Type 0) (s
   kept event may other = going_after st setting c of.going event may other
 
   -- machine a is another, and stands for another
-  module _ (a : ℕ) (low : a < st.machines) (y : M) (m : Machine) (here : stands st a m y) (runs : m.failed ≡ (c.machine a).failed) where
+  module _ (a : ℕ) (low : a < st.machines) (y : M) (m : Machine) (here : represents st a m y) (runs : m.failed ≡ (c.machine a).failed) where
     pub many_set : length (with_item old.machines a y).items ≡ st.machines
     many_set = length-set old.machines.items a y ∙ of.many
 
-    pub machines_set : (b : ℕ) (d : M) → b < st.machines → stands st b (set_at c.machine a m b) (slice_index_or (with_item old.machines a y).items b d)
+    pub machines_set : (b : ℕ) (d : M) → b < st.machines → represents st b (set_at c.machine a m b) (slice_index_or (with_item old.machines a y).items b d)
     machines_set b d low_b = elim (cases_eq b a) [
       | inl same ↦
-          subst (λ (k : ℕ). stands st k (set_at c.machine a m k) (slice_index_or (set old.machines.items a y) k d)) (sym same)
-          (subst (stands st a (set_at c.machine a m a)) (sym (get_or-set_same old.machines.items a y d (inside a low)))
-          (subst (λ (n : Machine). stands st a n y) (sym (set_at-same c.machine a m)) here))
+          subst (λ (k : ℕ). represents st k (set_at c.machine a m k) (slice_index_or (set old.machines.items a y) k d)) (sym same)
+          (subst (represents st a (set_at c.machine a m a)) (sym (get_or-set_same old.machines.items a y d (inside a low)))
+          (subst (λ (n : Machine). represents st a n y) (sym (set_at-same c.machine a m)) here))
       | inr other ↦
-          subst (stands st b (set_at c.machine a m b)) (sym (get_or-set_other old.machines.items a b y d other))
-          (subst (λ (n : Machine). stands st b n (slice_index_or old.machines.items b d)) (sym (set_at-other c.machine a m b other)) (of.machines b d low_b))
+          subst (represents st b (set_at c.machine a m b)) (sym (get_or-set_other old.machines.items a b y d other))
+          (subst (λ (n : Machine). represents st b n (slice_index_or old.machines.items b d)) (sym (set_at-other c.machine a m b other)) (of.machines b d low_b))
     ]
 
     pub runs_set : (b : ℕ) → b < st.machines → (set_at c.machine a m b).failed ≡ slice_index_or old.failed.items b false
@@ -202,9 +202,9 @@ module _ {M : Type 0} (stands : Setting → ℕ → Machine → M → Type 0) (s
     -- it did something by itself
     pub deed_made : (event : law.Event) → law.MayOccur st c event → IsNoRecovery event → (next left n k : ℕ) → n ≡ next → k ≡ left → next + left < 2 ^ 64 →
         law.after_event st c event ≡ record (with_machine c a m) { next = n; left = k } →
-        IsSavingClusterOf stands st (record old { machines = with_item old.machines a y; next = next; left = left }) (law.after_event st c event)
+        IsSavingClusterOf represents st (record old { machines = with_item old.machines a y; next = next; left = left }) (law.after_event st c event)
     deed_made event may other next left n k next_is left_is few does_it =
-        subst (IsSavingClusterOf stands st (record old { machines = with_item old.machines a y; next = next; left = left })) (sym does_it) (record {
+        subst (IsSavingClusterOf represents st (record old { machines = with_item old.machines a y; next = next; left = left })) (sym does_it) (record {
           many = many_set;
           small = of.small;
           links = of.links;
@@ -224,17 +224,17 @@ module _ {M : Type 0} (stands : Setting → ℕ → Machine → M → Type 0) (s
 
   -- ---- nothing has happened
 
-  pub same_made : (a : ℕ) (low : a < st.machines) (y : M) → stands st a (c.machine a) y → (links : List (List LinkView)) → HaveLinks links (suc st.machines) →
-      ((i j : ℕ) → messages_on links i j ≡ messages_on old.links i j) → IsSavingClusterOf stands st (record old { machines = with_item old.machines a y; links = links }) c
+  pub same_made : (a : ℕ) (low : a < st.machines) (y : M) → represents st a (c.machine a) y → (links : List (List LinkView)) → HaveLinks links (suc st.machines) →
+      ((i j : ℕ) → messages_on links i j ≡ messages_on old.links i j) → IsSavingClusterOf represents st (record old { machines = with_item old.machines a y; links = links }) c
   same_made a low y here links have same = record {
     many = many_set a low y (c.machine a) here refl;
     small = of.small;
     links = have;
     machines = λ b d low_b. elim (cases_eq b a) [
       | inl is ↦
-          subst (λ (k : ℕ). stands st k (c.machine k) (slice_index_or (set old.machines.items a y) k d)) (sym is)
-          (subst (stands st a (c.machine a)) (sym (get_or-set_same old.machines.items a y d (inside a low))) here)
-      | inr other ↦ subst (stands st b (c.machine b)) (sym (get_or-set_other old.machines.items a b y d other)) (of.machines b d low_b)
+          subst (λ (k : ℕ). represents st k (c.machine k) (slice_index_or (set old.machines.items a y) k d)) (sym is)
+          (subst (represents st a (c.machine a)) (sym (get_or-set_same old.machines.items a y d (inside a low))) here)
+      | inr other ↦ subst (represents st b (c.machine b)) (sym (get_or-set_other old.machines.items a b y d other)) (of.machines b d low_b)
     ];
     flags = of.flags;
     runs = of.runs;
@@ -250,7 +250,7 @@ module _ {M : Type 0} (stands : Setting → ℕ → Machine → M → Type 0) (s
   }
 
   pub same_lines : (links : List (List LinkView)) → HaveLinks links (suc st.machines) → ((i j : ℕ) → messages_on links i j ≡ messages_on old.links i j) →
-      (coordinator : CoordinatorView) → IsCoordinatorOf st coordinator c.coordinator → IsSavingClusterOf stands st (record old { links = links; coordinator = coordinator }) c
+      (coordinator : CoordinatorView) → IsCoordinatorOf st coordinator c.coordinator → IsSavingClusterOf represents st (record old { links = links; coordinator = coordinator }) c
   same_lines links have same coordinator leads = record {
     many = of.many;
     small = of.small;
@@ -272,9 +272,9 @@ module _ {M : Type 0} (stands : Setting → ℕ → Machine → M → Type 0) (s
   -- ---- the coordinator
 
   pub led_made : (event : law.Event) → law.MayOccur st c event → IsNoRecovery event → (coordinator : CoordinatorView) (leading : Coordinator) → IsCoordinatorOf st coordinator leading →
-      law.after_event st c event ≡ with_coordinator c leading → IsSavingClusterOf stands st (record old { coordinator = coordinator }) (law.after_event st c event)
+      law.after_event st c event ≡ with_coordinator c leading → IsSavingClusterOf represents st (record old { coordinator = coordinator }) (law.after_event st c event)
   led_made event may other coordinator leading leads does_it =
-      subst (IsSavingClusterOf stands st (record old { coordinator = coordinator })) (sym does_it) (record {
+      subst (IsSavingClusterOf represents st (record old { coordinator = coordinator })) (sym does_it) (record {
         many = of.many;
         small = of.small;
         links = of.links;
@@ -293,20 +293,20 @@ module _ {M : Type 0} (stands : Setting → ℕ → Machine → M → Type 0) (s
       })
 
   -- a machine fails
-  pub fail_made : (a : ℕ) (low : a < st.machines) → law.MayOccur st c (law.Fail a) → (y : M) → stands st a (fails (c.machine a)) y → (flags : Vec Bool Global) → flags.items ≡ set old.failed.items a true →
-      IsSavingClusterOf stands st (record old { machines = with_item old.machines a y; failed = flags }) (law.after_event st c (law.Fail a))
+  pub fail_made : (a : ℕ) (low : a < st.machines) → law.MayOccur st c (law.Fail a) → (y : M) → represents st a (fails (c.machine a)) y → (flags : Vec Bool Global) → flags.items ≡ set old.failed.items a true →
+      IsSavingClusterOf represents st (record old { machines = with_item old.machines a y; failed = flags }) (law.after_event st c (law.Fail a))
   fail_made a low may y here flags are = record {
     many = length-set old.machines.items a y ∙ of.many;
     small = of.small;
     links = of.links;
     machines = λ b d low_b. elim (cases_eq b a) [
       | inl same ↦
-          subst (λ (k : ℕ). stands st k (set_at c.machine a (fails (c.machine a)) k) (slice_index_or (set old.machines.items a y) k d)) (sym same)
-          (subst (stands st a (set_at c.machine a (fails (c.machine a)) a)) (sym (get_or-set_same old.machines.items a y d (inside a low)))
-          (subst (λ (n : Machine). stands st a n y) (sym (set_at-same c.machine a (fails (c.machine a)))) here))
+          subst (λ (k : ℕ). represents st k (set_at c.machine a (fails (c.machine a)) k) (slice_index_or (set old.machines.items a y) k d)) (sym same)
+          (subst (represents st a (set_at c.machine a (fails (c.machine a)) a)) (sym (get_or-set_same old.machines.items a y d (inside a low)))
+          (subst (λ (n : Machine). represents st a n y) (sym (set_at-same c.machine a (fails (c.machine a)))) here))
       | inr other ↦
-          subst (stands st b (set_at c.machine a (fails (c.machine a)) b)) (sym (get_or-set_other old.machines.items a b y d other))
-          (subst (λ (n : Machine). stands st b n (slice_index_or old.machines.items b d)) (sym (set_at-other c.machine a (fails (c.machine a)) b other)) (of.machines b d low_b))
+          subst (represents st b (set_at c.machine a (fails (c.machine a)) b)) (sym (get_or-set_other old.machines.items a b y d other))
+          (subst (λ (n : Machine). represents st b n (slice_index_or old.machines.items b d)) (sym (set_at-other c.machine a (fails (c.machine a)) b other)) (of.machines b d low_b))
     ];
     flags = ap length are ∙ length-set old.failed.items a true ∙ of.flags;
     runs = λ b low_b. elim (cases_eq b a) [
@@ -329,7 +329,7 @@ module _ {M : Type 0} (stands : Setting → ℕ → Machine → M → Type 0) (s
     going = kept (law.Fail a) may (λ base is. cc);
   }
 
-  pub stop_made : law.MayOccur st c law.Stop → IsSavingClusterOf stands st (record old { stopped = true }) (law.after_event st c law.Stop)
+  pub stop_made : law.MayOccur st c law.Stop → IsSavingClusterOf represents st (record old { stopped = true }) (law.after_event st c law.Stop)
   stop_made may = record {
     many = of.many;
     small = of.small;
@@ -360,18 +360,18 @@ module _ {M : Type 0} (stands : Setting → ℕ → Machine → M → Type 0) (s
         subst (λ (messages : List MessageView). AreReports messages (c.reports b)) (sym (line_kept changes b st.machines (inr (more_not q st.machines low_q)))) (of.reports b low_b)
 
     -- a message goes from machine p onto the link to machine q
-    pub send_made : law.MayOccur st c (law.Send p q) → (x : M) (message : Message) (sending : SendsItsFirst stands q message x st p (c.machine p)) →
+    pub send_made : law.MayOccur st c (law.Send p q) → (x : M) (message : Message) (sending : SendsItsFirst represents q message x st p (c.machine p)) →
         ChangesLine old.links links p q (messages_on old.links p q ++ message_view message ∷ []) →
-        IsSavingClusterOf stands st (record old { machines = with_item old.machines p x; links = links }) (law.after_event st c (law.Send p q))
+        IsSavingClusterOf represents st (record old { machines = with_item old.machines p x; links = links }) (law.after_event st c (law.Send p q))
     send_made may x message sending changes =
         let m : Machine = hands q sending.behind (c.machine p) in
-        let told : law_messages.Message = told_by message in
+        let told : law_messages.Message = view_of message in
         let after : Cluster = with_messages (with_machine c p m) p q (c.link p q ++ told ∷ []) in
         let does_it : law.after_event st c (law.Send p q) ≡ after = ap (law.sends_message c p q) sending.first in
         let read : map message_read (messages_on old.links p q ++ message_view message ∷ []) ≡ c.link p q ++ told ∷ [] =
         map-append message_read (messages_on old.links p q) (message_view message ∷ []) ∙ ap (λ (ms : List law_messages.Message). ms ++ told ∷ []) (sym (of.told p q low_p low_q))
         in
-        subst (IsSavingClusterOf stands st (record old { machines = with_item old.machines p x; links = links })) (sym does_it) (record {
+        subst (IsSavingClusterOf represents st (record old { machines = with_item old.machines p x; links = links })) (sym does_it) (record {
           many = many_set p low_p x m sending.after refl;
           small = of.small;
           links = have;
@@ -391,13 +391,13 @@ module _ {M : Type 0} (stands : Setting → ℕ → Machine → M → Type 0) (s
 
     -- the first message on the link from machine p comes to machine q
     pub deliver_made : law.MayOccur st c (law.Deliver p q) → (x : M) (told : law_messages.Message) (behind : List law_messages.Message) → c.link p q ≡ told ∷ behind →
-        stands st q (prompt st q (receives st q told (c.machine q))) x → (messages : List MessageView) → map message_read messages ≡ behind → ChangesLine old.links links p q messages →
-        IsSavingClusterOf stands st (record old { machines = with_item old.machines q x; links = links }) (law.after_event st c (law.Deliver p q))
+        represents st q (prompt st q (receives st q told (c.machine q))) x → (messages : List MessageView) → map message_read messages ≡ behind → ChangesLine old.links links p q messages →
+        IsSavingClusterOf represents st (record old { machines = with_item old.machines q x; links = links }) (law.after_event st c (law.Deliver p q))
     deliver_made may x told behind first here messages read changes =
         let m : Machine = prompt st q (receives st q told (c.machine q)) in
         let after : Cluster = with_messages (with_machine c q m) p q behind in
         let does_it : law.after_event st c (law.Deliver p q) ≡ after = ap (law.delivers_message st c p q) first in
-        subst (IsSavingClusterOf stands st (record old { machines = with_item old.machines q x; links = links })) (sym does_it) (record {
+        subst (IsSavingClusterOf represents st (record old { machines = with_item old.machines q x; links = links })) (sym does_it) (record {
           many = many_set q low_q x m here refl;
           small = of.small;
           links = have;
@@ -457,11 +457,11 @@ module _ {M : Type 0} (stands : Setting → ℕ → Machine → M → Type 0) (s
     -- a call goes onto the link
     pub send_call_made : law.MayOccur st c (law.SendCall a) → (coordinator : CoordinatorView) (message : MessageView) → IsHandedOver st coordinator c.coordinator a message →
         ChangesLine old.links links st.machines a (messages_on old.links st.machines a ++ message ∷ []) →
-        IsSavingClusterOf stands st (record old { links = links; coordinator = coordinator }) (law.after_event st c (law.SendCall a))
+        IsSavingClusterOf represents st (record old { links = links; coordinator = coordinator }) (law.after_event st c (law.SendCall a))
     send_call_made may coordinator message over changes =
         let after : Cluster = with_calls (with_coordinator c (hands_call a over.behind c.coordinator)) a (c.calls a ++ over.call ∷ []) in
         let does_it : law.after_event st c (law.SendCall a) ≡ after = ap (law.sends_call c a) over.first in
-        subst (IsSavingClusterOf stands st (record old { links = links; coordinator = coordinator })) (sym does_it) (record {
+        subst (IsSavingClusterOf represents st (record old { links = links; coordinator = coordinator })) (sym does_it) (record {
           many = of.many;
           small = of.small;
           links = have;
@@ -481,14 +481,14 @@ module _ {M : Type 0} (stands : Setting → ℕ → Machine → M → Type 0) (s
 
     -- a call comes
     pub deliver_call_made : law.MayOccur st c (law.DeliverCall a) → (x : M) (call : Call) (behind : List Call) → c.calls a ≡ call ∷ behind →
-        stands st a (prompt st a (takes_call st a call (c.machine a))) x → (messages : List MessageView) → AreCalls messages behind → ChangesLine old.links links st.machines a messages →
+        represents st a (prompt st a (takes_call st a call (c.machine a))) x → (messages : List MessageView) → AreCalls messages behind → ChangesLine old.links links st.machines a messages →
         (prompt st a (takes_call st a call (c.machine a))).failed ≡ (c.machine a).failed →
-        IsSavingClusterOf stands st (record old { machines = with_item old.machines a x; links = links }) (law.after_event st c (law.DeliverCall a))
+        IsSavingClusterOf represents st (record old { machines = with_item old.machines a x; links = links }) (law.after_event st c (law.DeliverCall a))
     deliver_call_made may x call behind first here messages are changes runs =
         let m : Machine = prompt st a (takes_call st a call (c.machine a)) in
         let after : Cluster = with_calls (with_machine c a m) a behind in
         let does_it : law.after_event st c (law.DeliverCall a) ≡ after = ap (law.delivers_call st c a) first in
-        subst (IsSavingClusterOf stands st (record old { machines = with_item old.machines a x; links = links })) (sym does_it) (record {
+        subst (IsSavingClusterOf represents st (record old { machines = with_item old.machines a x; links = links })) (sym does_it) (record {
           many = many_set a low x m here runs;
           small = of.small;
           links = have;
@@ -507,14 +507,14 @@ module _ {M : Type 0} (stands : Setting → ℕ → Machine → M → Type 0) (s
         })
 
     -- a report goes onto the link
-    pub send_report_made : law.MayOccur st c (law.SendReport a) → (x : M) (message : Message) (reporting : IsReporting stands message x st a (c.machine a)) →
+    pub send_report_made : law.MayOccur st c (law.SendReport a) → (x : M) (message : Message) (reporting : IsReporting represents message x st a (c.machine a)) →
         ChangesLine old.links links a st.machines (messages_on old.links a st.machines ++ message_view message ∷ []) →
-        IsSavingClusterOf stands st (record old { machines = with_item old.machines a x; links = links }) (law.after_event st c (law.SendReport a))
+        IsSavingClusterOf represents st (record old { machines = with_item old.machines a x; links = links }) (law.after_event st c (law.SendReport a))
     send_report_made may x message reporting changes =
         let m : Machine = hands_report reporting.behind (c.machine a) in
         let after : Cluster = with_reports (with_machine c a m) a (c.reports a ++ reporting.report ∷ []) in
         let does_it : law.after_event st c (law.SendReport a) ≡ after = ap (law.sends_report c a) reporting.first in
-        subst (IsSavingClusterOf stands st (record old { machines = with_item old.machines a x; links = links })) (sym does_it) (record {
+        subst (IsSavingClusterOf represents st (record old { machines = with_item old.machines a x; links = links })) (sym does_it) (record {
           many = many_set a low x m reporting.after refl;
           small = of.small;
           links = have;
@@ -537,11 +537,11 @@ module _ {M : Type 0} (stands : Setting → ℕ → Machine → M → Type 0) (s
     pub deliver_report_made : law.MayOccur st c (law.DeliverReport a) → (coordinator : CoordinatorView) (report : Report) (behind : List Report) → c.reports a ≡ report ∷ behind →
         IsCoordinatorOf st coordinator (takes_report a report c.coordinator) →
         (messages : List MessageView) → AreReports messages behind → ChangesLine old.links links a st.machines messages →
-        IsSavingClusterOf stands st (record old { links = links; coordinator = coordinator }) (law.after_event st c (law.DeliverReport a))
+        IsSavingClusterOf represents st (record old { links = links; coordinator = coordinator }) (law.after_event st c (law.DeliverReport a))
     deliver_report_made may coordinator report behind first leads messages are changes =
         let after : Cluster = with_reports (with_coordinator c (takes_report a report c.coordinator)) a behind in
         let does_it : law.after_event st c (law.DeliverReport a) ≡ after = ap (law.delivers_report c a) first in
-        subst (IsSavingClusterOf stands st (record old { links = links; coordinator = coordinator })) (sym does_it) (record {
+        subst (IsSavingClusterOf represents st (record old { links = links; coordinator = coordinator })) (sym does_it) (record {
           many = of.many;
           small = of.small;
           links = have;

@@ -6,8 +6,8 @@ use Rattle.gl_base.specs.declared.entries.Entry.{Entry}
 use Rattle.graph_core.specs.DataGraph.{size}
 use Rattle.cluster_laws.specs.cluster_core.Recovering.{going_on}
 use Rattle.cluster_laws.specs.cluster_core.Settings.{IsSetting}
-use Rattle.cluster_laws.specs.cluster_model.Events.{Event, IsCourse, recovers}
-use Rattle.whole_laws.proofs.cluster_records.Courses.{begun, courses_go}
+use Rattle.cluster_laws.specs.cluster_model.Events.{Event, IsTrace, recovers}
+use Rattle.whole_laws.proofs.cluster_records.Traces.{begun, traces_go}
 use Rattle.whole_laws.proofs.cluster_records.Numbering.{all_own, all_same, left_same, replay-append, tasks-append, valid-append, valid_same}
 use Rattle.whole_laws.specs.cluster_records.Bases.{IsBase, IsBased}
 use Rattle.whole_laws.specs.cluster_records.Recorded.{HaveSameNumbers, IsOwnUpdate}
@@ -58,8 +58,8 @@ still_setting : (st : Setting) → IsSetting st → (base : BaseView) → IsSett
 still_setting st is base = record { graph = is.graph; owner = is.owner }
 
 pub good_bases : (st : Setting) (base : BaseView) (first c : Cluster) (events : List Event) → IsSetting st → AreColoured st st.engine → IsBase st base first.next →
-    IsCourse (going_on st base.numbers base.number) (recovers st base first) events c → HasGoodBase (setting_behind (going_on st base.numbers base.number) events) c
-good_bases st base first c events is coloured its course =
+    IsTrace (going_on st base.numbers base.number) (recovers st base first) events c → HasGoodBase (setting_behind (going_on st base.numbers base.number) events) c
+good_bases st base first c events is coloured its trace =
     let began = begun st is coloured base first its in
-    let now = courses_go events (going_on st base.numbers base.number) (still_setting st is base) (recovers st base first) c began.0 _ course began.1 began.2 in
+    let now = traces_go events (going_on st base.numbers base.number) (still_setting st is base) (recovers st base first) c began.0 _ trace began.1 began.2 in
     based_good (setting_behind (going_on st base.numbers base.number) events) c now.1 now.3

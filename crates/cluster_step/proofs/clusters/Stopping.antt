@@ -66,21 +66,21 @@ runs_on st c (event.Passage (passage.DeliverCall a)) none e is = ap (λ (x : law
 runs_on st c (event.Passage (passage.SendReport a)) none e is = ap (λ (x : law.Event). (law.after_event st c x).stopped) is ∙ report_sent c a.0 (c.machine a.0).out
 runs_on st c (event.Passage (passage.DeliverReport a)) none e is = ap (λ (x : law.Event). (law.after_event st c x).stopped) is ∙ report_delivered c a.0 (c.reports a.0)
 
-module _ {M : Type 0} (stands : Setting → ℕ → Machine → M → Type 0) (old new : Parts M) (some : StandsForSaving stands old) where
+module _ {M : Type 0} (represents : Setting → ℕ → Machine → M → Type 0) (old new : Parts M) (some : StandsForSaving represents old) where
   -- a cluster for which they stand is one as before
-  pub some_same : StandsForSameSaving stands old new → StandsForSaving stands new
+  pub some_same : StandsForSameSaving represents old new → StandsForSaving represents new
   some_same same = (some.0, some.1, some.2, same some.0 some.1 some.2 some.3)
 
   -- as it was
-  pub same_runs : StandsForSameSaving stands old new → new.stopped ≡ old.stopped
+  pub same_runs : StandsForSameSaving represents old new → new.stopped ≡ old.stopped
   same_runs same = sym (same some.0 some.1 some.2 some.3).stopped ∙ some.3.stopped
 
   -- behind an event
-  pub takes_on : (what : Event) → IsNoStop what → TakesPlace stands old what new → new.stopped ≡ old.stopped
+  pub takes_on : (what : Event) → IsNoStop what → TakesPlace represents old what new → new.stopped ≡ old.stopped
   takes_on what none takes =
       let has = takes some.0 some.1 some.2 some.3 in
       sym has.after.stopped ∙ runs_on some.0 some.1 what none has.event has.is ∙ some.3.stopped
 
-pub answer_runs : {M : Type 0} (stands : Setting → ℕ → Machine → M → Type 0) (old new : Parts M) (some : StandsForSaving stands old) (what : Event) → IsNoStop what → (r : Result (Unit {0}) Refused) → AnswersEvent stands old what r new → new.stopped ≡ old.stopped
-answer_runs stands old new some what none (Ok u) answers = takes_on stands old new some what none answers.made
-answer_runs stands old new some what none (Err e) answers = same_runs stands old new some answers.unchanged
+pub answer_runs : {M : Type 0} (represents : Setting → ℕ → Machine → M → Type 0) (old new : Parts M) (some : StandsForSaving represents old) (what : Event) → IsNoStop what → (r : Result (Unit {0}) Refused) → AnswersEvent represents old what r new → new.stopped ≡ old.stopped
+answer_runs represents old new some what none (Ok u) answers = takes_on represents old new some what none answers.made
+answer_runs represents old new some what none (Err e) answers = same_runs represents old new some answers.unchanged

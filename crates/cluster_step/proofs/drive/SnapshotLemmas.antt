@@ -9,7 +9,7 @@ use Rattle.cluster_laws.specs.cluster_model.Events as law
 use Rattle.cluster_laws.specs.cluster_model.Leading.{SnapshotIsDue}
 use Rattle.cluster_step.proofs.trace.Going.{setting_now}
 use Rattle.cluster_step.specs.trace.Calls.{MakesCall}
-use Rattle.cluster_step.specs.trace.Courses.{CallOpening, Cluster, CourseView, IsCourseNow, Machine, Setting, first_setting, newest_setting}
+use Rattle.cluster_step.specs.trace.Traces.{CallOpening, Cluster, TraceView, IsTraceNow, Machine, Setting, first_setting, newest_setting}
 use Rattle.coordinator.specs.coord_core.Calls.{IsDueOf}
 use Rattle.coordinator.specs.coord_core.Coordinators.{CoordinatorView, IsSavingOf, SavingView}
 use Rattle.coordinator.specs.declared.coord_core.leading.Due.{Due}
@@ -43,7 +43,7 @@ few_seen seen own same stored is few = subst (λ (v : CoordinatorView). v.saving
 not_few : (n k : ℕ) → n ≡ k → k < 4096 → 4096 ≤ n → ⊥
 not_few n k is low many = omega arith
 
-module _ {M : Type 0} (stands : Setting → ℕ → Machine → M → Type 0) (v : CourseView M) (st : Setting) (o : CallOpening) (events : List law.Event) (c : Cluster) (is : IsCourseNow stands v st o events c) where
+module _ {M : Type 0} (represents : Setting → ℕ → Machine → M → Type 0) (v : TraceView M) (st : Setting) (o : CallOpening) (events : List law.Event) (c : Cluster) (is : IsTraceNow represents v st o events c) where
   abbrev last : Setting
   last = newest_setting st o events
 

@@ -14,20 +14,20 @@ use Rattle.cluster_laws.specs.cluster_core.Scopes.{machines_from, own_from, set_
 use Rattle.cluster_laws.specs.cluster_core.Settings.{Chromatic, Engine, Locking}
 use Rattle.cluster_laws.proofs.cluster_core.Basics.{set_at-same}
 use Rattle.call_laws.proofs.cluster_attempts.Joining.{done_kept}
-use Rattle.whole_laws.proofs.cluster_ending.Courses.{setting_same}
+use Rattle.whole_laws.proofs.cluster_ending.Traces.{setting_same}
 use Rattle.cluster_laws.specs.cluster_model.Events as law
 use Rattle.cluster_laws.specs.cluster_model.Working.{admits, grants, prompt}
 use Rattle.whole_laws.specs.cluster_records.LineOfFour.{after_events}
 use Rattle.whole_laws.specs.cluster_whole.Whole.{setting_behind}
 use Rattle.cluster_step.specs.clusters.AtOnce.{CanNotTakePlaceAtOnce, CanTakePlaceAtOnce, IsMadeAtOnce, TakesPlaceAtOnce, events_at_once, locks_at_once}
 use Rattle.cluster_step.specs.clusters.Clusters.{StandsForSameSaving}
-use Rattle.cluster_step.specs.trace.AtOnce.{CanHappenAtOnceInCall, CanNotHappenAtOnceInCall, HappensAtOnceInCall}
-use Rattle.cluster_step.specs.trace.Courses.{ArePassing, CallOpening, Cluster, CourseGoesOn, CourseView, HasCourse, InEachCourse, IsCourseNow, IsSavingClusterOf, Machine, Parts, Setting, as_since, first_cluster, first_setting, newest_setting}
+use Rattle.cluster_step.specs.trace.AtOnce.{CanHappenAtOnceInCall, IsLocalUpdateDisabled, HappensAtOnceInCall}
+use Rattle.cluster_step.specs.trace.Traces.{ArePassing, CallOpening, Cluster, TraceGoesOn, TraceView, HasTrace, InEachTrace, IsTraceNow, IsSavingClusterOf, Machine, Parts, Setting, as_since, first_cluster, first_setting, newest_setting}
 use Rattle.cluster_step.specs.trace.Events.{StaysThere}
 use Rattle.cluster_step.proofs.trace.Going.{behind_append, ends_at, going_still, setting_now, since_back, stays}
 use Rattle.call_laws.specs.whole_calls.Following.{FollowJob, has_reached, reaches}
-use Rattle.call_laws.specs.whole_calls.Opened.{IsCourseOfCall}
-use Rattle.call_laws.proofs.whole_calls.WorkedPair.{course_append, follow_append}
+use Rattle.call_laws.specs.whole_calls.Opened.{IsTraceOfCall}
+use Rattle.call_laws.proofs.whole_calls.WorkedPair.{trace_append, follow_append}
 
 -- ---- as a scope is admitted and goes on, the log stays
 
@@ -112,20 +112,20 @@ passing_setting [] all st = refl
 passing_setting (e ∷ events) all st = ap (λ (s : Setting). setting_behind s events) (setting_same st e all.0.1) ∙ passing_setting events all.1 st
 
 -- and so does what machines had completed before
-passing_done : (events : List law.Event) → ArePassing events → (st : Setting) (c new : Cluster) → law.IsCourse st c events new → (a : ℕ) → (new.machine a).done ≡ (c.machine a).done
-passing_done [] all st c new course a = ap (λ (x : Cluster). (x.machine a).done) course
-passing_done (e ∷ events) all st c new course a =
-    passing_done events all.1 st (law.after_event st c e) new (subst (λ (s : Setting). law.IsCourse s (law.after_event st c e) events new) (setting_same st e all.0.1) course.1) a
-    ∙ done_kept st c a e course.0.1 all.0.1
+passing_done : (events : List law.Event) → ArePassing events → (st : Setting) (c new : Cluster) → law.IsTrace st c events new → (a : ℕ) → (new.machine a).done ≡ (c.machine a).done
+passing_done [] all st c new trace a = ap (λ (x : Cluster). (x.machine a).done) trace
+passing_done (e ∷ events) all st c new trace a =
+    passing_done events all.1 st (law.after_event st c e) new (subst (λ (s : Setting). law.IsTrace s (law.after_event st c e) events new) (setting_same st e all.0.1) trace.1) a
+    ∙ done_kept st c a e trace.0.1 all.0.1
 
 -- ---- the course goes on by them
 
-module _ {M : Type 0} (stands : Setting → ℕ → Machine → M → Type 0) (old new : CourseView M) (failures : new.failures ≡ old.failures) (done : new.done ≡ old.done) where
-  module _ (st : Setting) (o : CallOpening) (events : List law.Event) (c : Cluster) (is : IsCourseNow stands old st o events c) where
+module _ {M : Type 0} (represents : Setting → ℕ → Machine → M → Type 0) (old new : TraceView M) (failures : new.failures ≡ old.failures) (done : new.done ≡ old.done) where
+  module _ (st : Setting) (o : CallOpening) (events : List law.Event) (c : Cluster) (is : IsTraceNow represents old st o events c) where
     abbrev now : Setting
     now = newest_setting st o events
 
-    module _ (more : List law.Event) (passing : ArePassing more) (led : Cluster) (course : law.IsCourse now c more led) (follows : FollowJob now old.failures c more) (code : IsSavingClusterOf stands now new.now led) where
+    module _ (more : List law.Event) (passing : ArePassing more) (led : Cluster) (trace : law.IsTrace now c more led) (follows : FollowJob now old.failures c more) (code : IsSavingClusterOf represents now new.now led) where
       abbrev later : List law.Event
       later = events ++ more
 
@@ -133,88 +133,88 @@ module _ {M : Type 0} (stands : Setting → ℕ → Machine → M → Type 0) (o
       still_set = behind_append events more (first_setting st o) ∙ passing_setting more passing now
 
       ends : c ≡ after_events (first_setting st o) events (first_cluster st o)
-      ends = ends_at events (first_setting st o) (first_cluster st o) c is.course.course
+      ends = ends_at events (first_setting st o) (first_cluster st o) c is.trace.trace
 
-      course_of : IsCourseOfCall st old.failures o.kept o.resumed o.base o.first later led
-      course_of =
+      trace_of : IsTraceOfCall st old.failures o.kept o.resumed o.base o.first later led
+      trace_of =
           record {
-            is = is.course.is;
-            coloured = is.course.coloured;
-            opened = is.course.opened;
-            course = course_append events more (first_setting st o) (first_cluster st o) c led is.course.course course;
-            follows = follow_append old.failures events more (first_setting st o) (first_cluster st o) is.course.follows (subst (λ (x : Cluster). FollowJob now old.failures x more) ends follows);
+            is = is.trace.is;
+            coloured = is.trace.coloured;
+            opened = is.trace.opened;
+            trace = trace_append events more (first_setting st o) (first_cluster st o) c led is.trace.trace trace;
+            follows = follow_append old.failures events more (first_setting st o) (first_cluster st o) is.trace.follows (subst (λ (x : Cluster). FollowJob now old.failures x more) ends follows);
           }
 
-      goes_by : IsCourseNow stands new st o later led
+      goes_by : IsTraceNow represents new st o later led
       goes_by =
           record {
             setting = is.setting;
-            course = subst (λ (fs : List FailureAt). IsCourseOfCall st fs o.kept o.resumed o.base o.first later led) (sym failures) course_of;
-            code = subst (λ (s : Setting). IsSavingClusterOf stands s new.now led) (sym still_set) code;
-            done = λ a low. passing_done more passing now c led course a ∙ is.done a low ∙ ap (λ (ds : List ℕ). slice_index_or ds a 0) (sym done);
+            trace = subst (λ (fs : List FailureAt). IsTraceOfCall st fs o.kept o.resumed o.base o.first later led) (sym failures) trace_of;
+            code = subst (λ (s : Setting). IsSavingClusterOf represents s new.now led) (sym still_set) code;
+            done = λ a low. passing_done more passing now c led trace a ∙ is.done a low ∙ ap (λ (ds : List ℕ). slice_index_or ds a 0) (sym done);
           }
 
-  happens_at_once : (a v : ℕ) → InEachCourse stands old (λ st o events c. has_reached old.failures c a ≡ false) → TakesPlaceAtOnce stands old.now a v new.now → HappensAtOnceInCall stands old a v new
+  happens_at_once : (a v : ℕ) → InEachTrace represents old (λ st o events c. has_reached old.failures c a ≡ false) → TakesPlaceAtOnce represents old.now a v new.now → HappensAtOnceInCall represents old a v new
   happens_at_once a v free takes st o events c is =
       let last : Setting = newest_setting st o events in
-      let has : IsMadeAtOnce stands last c a v new.now = takes last c (setting_now st o events is.setting) is.code in
+      let has : IsMadeAtOnce represents last c a v new.now = takes last c (setting_now st o events is.setting) is.code in
       record {
         free = free st o events c is;
         may = has.may;
         later = has.after;
-        now = goes_by st o events c is (events_at_once last a v (c.machine a)) (pass_at_once last a v (c.machine a)) has.after has.course
+        now = goes_by st o events c is (events_at_once last a v (c.machine a)) (pass_at_once last a v (c.machine a)) has.after has.trace
             (follow_at_once last old.failures a c v (free st o events c is)) has.code;
       }
 
-  going_at_once : new.since ≡ old.since → HasCourse stands old → (a v : ℕ) → HappensAtOnceInCall stands old a v new → CourseGoesOn stands (as_since new) new
+  going_at_once : new.since ≡ old.since → HasTrace represents old → (a v : ℕ) → HappensAtOnceInCall represents old a v new → TraceGoesOn represents (as_since new) new
   going_at_once since has a v all st o events c is =
-      let before = has.goes_on st o events c (since_back stands old new failures since done st o events c is) in
+      let before = has.goes_on st o events c (since_back represents old new failures since done st o events c is) in
       let next = all st o (events ++ before.0) before.1 before.3 in
       let more : List law.Event = events_at_once (newest_setting st o (events ++ before.0)) a v (before.1.machine a) in (
         before.0 ++ more,
         next.later,
         passing_both before.0 more before.2 (pass_at_once (newest_setting st o (events ++ before.0)) a v (before.1.machine a)),
-        subst (λ (es : List law.Event). IsCourseNow stands new st o es next.later) (append_assoc events before.0 more) next.now,
+        subst (λ (es : List law.Event). IsTraceNow represents new st o es next.later) (append_assoc events before.0 more) next.now,
       )
 
 -- ---- what the call answers, as the type shows it
 
-module _ {M : Type 0} (stands : Setting → ℕ → Machine → M → Type 0) (v own : CourseView M) (view_is : v ≡ own) (since cluster : Parts M) (at : MachineNo) where
-  abbrev later_view : CourseView M
+module _ {M : Type 0} (represents : Setting → ℕ → Machine → M → Type 0) (v own : TraceView M) (view_is : v ≡ own) (since cluster : Parts M) (at : MachineNo) where
+  abbrev later_view : TraceView M
   later_view = record v { since = since; now = cluster }
 
   failures_same : later_view.failures ≡ own.failures
-  failures_same = ap (λ (x : CourseView M). x.failures) view_is
+  failures_same = ap (λ (x : TraceView M). x.failures) view_is
 
   done_same : later_view.done ≡ own.done
-  done_same = ap (λ (x : CourseView M). x.done) view_is
+  done_same = ap (λ (x : TraceView M). x.done) view_is
 
-  pub cannot_at_once : CanNotTakePlaceAtOnce stands v.now at → CanNotHappenAtOnceInCall stands own at
-  cannot_at_once cannot = inr (subst (λ (x : CourseView M). CanNotTakePlaceAtOnce stands x.now at) view_is cannot)
+  pub cannot_at_once : CanNotTakePlaceAtOnce represents v.now at → IsLocalUpdateDisabled represents own at
+  cannot_at_once cannot = inr (subst (λ (x : TraceView M). CanNotTakePlaceAtOnce represents x.now at) view_is cannot)
 
-  pub unchanged_at_once : (r : Result Vertex Refused) → OnErr r (StandsForSameSaving stands v.now cluster) → OnErr r (StaysThere stands own later_view)
+  pub unchanged_at_once : (r : Result Vertex Refused) → OnErr r (StandsForSameSaving represents v.now cluster) → OnErr r (StaysThere represents own later_view)
   unchanged_at_once (Ok x) same = tt
-  unchanged_at_once (Err e) same = stays stands own later_view failures_same done_same (subst (λ (x : CourseView M). StandsForSameSaving stands x.now cluster) view_is same)
+  unchanged_at_once (Err e) same = stays represents own later_view failures_same done_same (subst (λ (x : TraceView M). StandsForSameSaving represents x.now cluster) view_is same)
 
-  module _ (free : InEachCourse stands own (λ st o events c. has_reached own.failures c at.0 ≡ false)) where
-    pub can_at_once : CanTakePlaceAtOnce stands v.now at.0 → CanHappenAtOnceInCall stands own at.0
+  module _ (free : InEachTrace represents own (λ st o events c. has_reached own.failures c at.0 ≡ false)) where
+    pub can_at_once : CanTakePlaceAtOnce represents v.now at.0 → CanHappenAtOnceInCall represents own at.0
     can_at_once can =
-        let here : CanTakePlaceAtOnce stands own.now at.0 = subst (λ (x : CourseView M). CanTakePlaceAtOnce stands x.now at.0) view_is can in
+        let here : CanTakePlaceAtOnce represents own.now at.0 = subst (λ (x : TraceView M). CanTakePlaceAtOnce represents x.now at.0) view_is can in
         (here.0, λ st o events c is. (here.1 (newest_setting st o events) c (setting_now st o events is.setting) is.code, free st o events c is))
 
-    pub made_at_once : (r : Result Vertex Refused) → IfOk r (λ x. TakesPlaceAtOnce stands v.now at.0 x.0 cluster) → IfOk r (λ x. HappensAtOnceInCall stands own at.0 x.0 later_view)
-    made_at_once (Ok x) takes = happens_at_once stands own later_view failures_same done_same at.0 x.0 free (subst (λ (y : CourseView M). TakesPlaceAtOnce stands y.now at.0 x.0 cluster) view_is takes)
+    pub made_at_once : (r : Result Vertex Refused) → IfOk r (λ x. TakesPlaceAtOnce represents v.now at.0 x.0 cluster) → IfOk r (λ x. HappensAtOnceInCall represents own at.0 x.0 later_view)
+    made_at_once (Ok x) takes = happens_at_once represents own later_view failures_same done_same at.0 x.0 free (subst (λ (y : TraceView M). TakesPlaceAtOnce represents y.now at.0 x.0 cluster) view_is takes)
     made_at_once (Err e) takes = tt
 
-    pub kept_at_once : HasCourse stands v → length cluster.machines.items ≡ length v.now.machines.items → since ≡ v.since → (r : Result Vertex Refused)
-        → IfOk r (λ x. TakesPlaceAtOnce stands v.now at.0 x.0 cluster) → OnErr r (StandsForSameSaving stands v.now cluster) → HasCourse stands later_view
+    pub kept_at_once : HasTrace represents v → length cluster.machines.items ≡ length v.now.machines.items → since ≡ v.since → (r : Result Vertex Refused)
+        → IfOk r (λ x. TakesPlaceAtOnce represents v.now at.0 x.0 cluster) → OnErr r (StandsForSameSaving represents v.now cluster) → HasTrace represents later_view
     kept_at_once has many kept (Ok x) takes same =
         record {
           many = has.many ∙ sym many;
-          goes_on = going_at_once stands own later_view failures_same done_same (kept ∙ ap (λ (y : CourseView M). y.since) view_is) (subst (HasCourse stands) view_is has) at.0 x.0 (made_at_once (Ok x) takes);
+          goes_on = going_at_once represents own later_view failures_same done_same (kept ∙ ap (λ (y : TraceView M). y.since) view_is) (subst (HasTrace represents) view_is has) at.0 x.0 (made_at_once (Ok x) takes);
         }
     kept_at_once has many kept (Err e) takes same =
         record {
           many = has.many ∙ sym many;
-          goes_on = going_still stands own later_view failures_same (kept ∙ ap (λ (y : CourseView M). y.since) view_is) done_same (subst (HasCourse stands) view_is has) (unchanged_at_once (Err e) same);
+          goes_on = going_still represents own later_view failures_same (kept ∙ ap (λ (y : TraceView M). y.since) view_is) done_same (subst (HasTrace represents) view_is has) (unchanged_at_once (Err e) same);
         }

@@ -21,7 +21,7 @@ use Rattle.graph_core.specs.DataGraph.{size}
 use Rattle.whole_laws.proofs.cluster_whole.Wholeness.{is_exclusive}
 use Rattle.cluster_laws.specs.cluster_model.Machines.{completed}
 use Rattle.cluster_step.specs.trace.Calls.{HasEndedCall, HasTaskLeft, MakesCall, OfTheCall}
-use Rattle.cluster_step.specs.trace.Courses.{CallOpening, Cluster, CourseView, InEachCourse, IsCourseNow, IsSnapSetting, Machine, Setting, first_setting, newest_setting}
+use Rattle.cluster_step.specs.trace.Traces.{CallOpening, Cluster, TraceView, InEachTrace, IsTraceNow, IsSnapSetting, Machine, Setting, first_setting, newest_setting}
 use Rattle.cluster_step.proofs.trace.Going.{setting_now}
 use Rattle.cluster_laws.specs.cluster_model.Events as law
 use Rattle.cluster_laws.specs.cluster_model.Leading.{RecordIsDue, SnapshotIsDue}
@@ -33,10 +33,10 @@ use Rattle.call_laws.specs.whole_calls.Telling.{HasSavedTheEnd}
 use Rattle.call_laws.proofs.whole_calls.Calling.{the_call}
 use Rattle.call_laws.proofs.whole_calls.Leading.{behind_since, since}
 
-module _ {M : Type 0} (stands : Setting → ℕ → Machine → M → Type 0) (v : CourseView M) (st : Setting) (o : CallOpening) (events : List law.Event) (c : Cluster) (is : IsCourseNow stands v st o events c) where
+module _ {M : Type 0} (represents : Setting → ℕ → Machine → M → Type 0) (v : TraceView M) (st : Setting) (o : CallOpening) (events : List law.Event) (c : Cluster) (is : IsTraceNow represents v st o events c) where
   pub makes_call : (call : EngineCall) × MakesCall st v.failures o events c call
   makes_call =
-      let all = the_call st v.failures o.kept o.resumed o.base o.first events c is.course in
+      let all = the_call st v.failures o.kept o.resumed o.base o.first events c is.trace in
       (all.0, record { is = all.1; windows = all.2 is.setting.stored; snapshots = all.3; few = all.4; tells = all.5; lost = all.6; orders = all.7; owners = all.8 })
 
   abbrev last : Setting
@@ -53,7 +53,7 @@ module _ {M : Type 0} (stands : Setting → ℕ → Machine → M → Type 0) (v
       record { under = there.under; sections = there.sections }
 
   -- what a machine has logged
-  module _ (a : ℕ) (x : M) (entries : List Entry) (it_is : InEachCluster stands v.now (λ st c. stands st a (c.machine a) x)) (tells : OfEach stands x (λ st a m. entries ≡ m.part.log)) where
+  module _ (a : ℕ) (x : M) (entries : List Entry) (it_is : InEachCluster represents v.now (λ st c. represents st a (c.machine a) x)) (tells : OfEach represents x (λ st a m. entries ≡ m.part.log)) where
     pub logged : entries ≡ (c.machine a).part.log
     logged = tells last a (c.machine a) (setting_now st o events is.setting) (it_is last c (setting_now st o events is.setting) is.code)
 
@@ -102,7 +102,7 @@ module _ {M : Type 0} (stands : Setting → ℕ → Machine → M → Type 0) (v
       no_more (before + made) (subst (λ (n : ℕ). n < 2 ^ 64) (sym sum) (completed_fits a)) ∙ sum
 
   -- a scope that is ready for its update has a task, also after the call's order
-  module _ (s : ScopeId) (a : ℕ) (x : M) (it_is : InEachCluster stands v.now (λ st c. stands st a (c.machine a) x)) (can : CanUpdate stands x s) where
+  module _ (s : ScopeId) (a : ℕ) (x : M) (it_is : InEachCluster represents v.now (λ st c. represents st a (c.machine a) x)) (can : CanUpdate represents x s) where
     may_here : (s.home.0 ≡ a) × MayUpdate s (c.machine a).part 1
     may_here = can 0 last a (c.machine a) (setting_now st o events is.setting) (it_is last c (setting_now st o events is.setting) is.code)
 
@@ -141,18 +141,18 @@ module _ {M : Type 0} (stands : Setting → ℕ → Machine → M → Type 0) (v
 one_ticket : 0 < 1
 one_ticket = omega arith
 
-module _ {M : Type 0} (stands : Setting → ℕ → Machine → M → Type 0) (v own : CourseView M) (view_is : v ≡ own) where
+module _ {M : Type 0} (represents : Setting → ℕ → Machine → M → Type 0) (v own : TraceView M) (view_is : v ≡ own) where
   -- what is so of each cluster is so in each course
-  pub in_course : (holds : Setting → Cluster → Type 0) → InEachCluster stands v.now holds → InEachCourse stands own (λ st o events c. holds (newest_setting st o events) c)
-  in_course holds all st o events c is =
-      let here : InEachCluster stands own.now holds = subst (λ (x : CourseView M). InEachCluster stands x.now holds) view_is all in
+  pub in_trace : (holds : Setting → Cluster → Type 0) → InEachCluster represents v.now holds → InEachTrace represents own (λ st o events c. holds (newest_setting st o events) c)
+  in_trace holds all st o events c is =
+      let here : InEachCluster represents own.now holds = subst (λ (x : TraceView M). InEachCluster represents x.now holds) view_is all in
       here (newest_setting st o events) c (setting_now st o events is.setting) is.code
 
-  pub left_is : (left : ℕ) → InEachCluster stands v.now (λ st c. left ≡ c.left) → OfTheCall stands own (λ st o c call. length (made_of call) + left ≡ o.first.left)
+  pub left_is : (left : ℕ) → InEachCluster represents v.now (λ st c. left ≡ c.left) → OfTheCall represents own (λ st o c call. length (made_of call) + left ≡ o.first.left)
   left_is left all st o events c is call makes =
-      subst (λ (n : ℕ). length (made_of call) + n ≡ o.first.left) (sym (in_course (λ st x. left ≡ x.left) all st o events c is)) makes.tells.spent
+      subst (λ (n : ℕ). length (made_of call) + n ≡ o.first.left) (sym (in_trace (λ st x. left ≡ x.left) all st o events c is)) makes.tells.spent
 
-  record_first : (made : Record) (st : Setting) (o : CallOpening) (events : List law.Event) (c : Cluster) → IsCourseNow stands own st o events c → RecordsCut (newest_setting st o events) c made → IsRecordFor st (snapshot_due c.coordinator) made
+  record_first : (made : Record) (st : Setting) (o : CallOpening) (events : List law.Event) (c : Cluster) → IsTraceNow represents own st o events c → RecordsCut (newest_setting st o events) c made → IsRecordFor st (snapshot_due c.coordinator) made
   record_first made st o events c is cut =
       let last : Setting = newest_setting st o events in
       let there : IsRecordFor (since (first_setting st o) last.start last.base) (snapshot_due c.coordinator) made =
@@ -160,40 +160,40 @@ module _ {M : Type 0} (stands : Setting → ℕ → Machine → M → Type 0) (v
       in
       record { number = there.number; machines = there.machines; parts = there.parts; entries = there.entries; by_ticket = there.by_ticket }
 
-  pub record_is : (r : Result Record Refused) → IfOk r (λ made. InEachCluster stands v.now (λ st c. RecordsCut st c made)) → IfOk r (λ made. InEachCourse stands own (λ st o events c. IsRecordFor st (snapshot_due c.coordinator) made))
-  record_is (Ok made) all = λ st o events c is. record_first made st o events c is (in_course (λ st x. RecordsCut st x made) all st o events c is)
+  pub record_is : (r : Result Record Refused) → IfOk r (λ made. InEachCluster represents v.now (λ st c. RecordsCut st c made)) → IfOk r (λ made. InEachTrace represents own (λ st o events c. IsRecordFor st (snapshot_due c.coordinator) made))
+  record_is (Ok made) all = λ st o events c is. record_first made st o events c is (in_trace (λ st x. RecordsCut st x made) all st o events c is)
   record_is (Err e) all = tt
 
-  module _ (a : ℕ) (x : M) (it_is : InEachCluster stands v.now (λ st c. stands st a (c.machine a) x)) where
-    pub home_of : (r : Option ScopeId) (at : MachineNo) → at.0 ≡ a → StandsForSaving stands v.now → IfSome r (CanUpdate stands x) → IfSome r (λ s. s.home ≡ at)
+  module _ (a : ℕ) (x : M) (it_is : InEachCluster represents v.now (λ st c. represents st a (c.machine a) x)) where
+    pub home_of : (r : Option ScopeId) (at : MachineNo) → at.0 ≡ a → StandsForSaving represents v.now → IfSome r (CanUpdate represents x) → IfSome r (λ s. s.home ≡ at)
     home_of None at at_is some can = tt
     home_of (Some s) at at_is some can =
         let number : s.home.0 ≡ at.0 = (can 0 some.0 a (some.1.machine a) some.2 (it_is some.0 some.1 some.2 some.3)).0 ∙ sym at_is in
         ap (λ (n : ℕ). let m : MachineNo = record { 0 = n } in m) number
 
-    pub flagged_of : (r : Option ScopeId) → IfSome r (CanUpdate stands x) → IfSome r (λ s. InEachCourse stands own (λ st o events c. (v : ℕ) × ((c.machine a).part.task v ≡ true)))
+    pub flagged_of : (r : Option ScopeId) → IfSome r (CanUpdate represents x) → IfSome r (λ s. InEachTrace represents own (λ st o events c. (v : ℕ) × ((c.machine a).part.task v ≡ true)))
     flagged_of None can = tt
     flagged_of (Some s) can = λ st o events c is.
-        let may = may_here stands own st o events c is s a x (subst (λ (y : CourseView M). InEachCluster stands y.now (λ st c. stands st a (c.machine a) x)) view_is it_is) can in
+        let may = may_here represents own st o events c is s a x (subst (λ (y : TraceView M). InEachCluster represents y.now (λ st c. represents st a (c.machine a) x)) view_is it_is) can in
         (may.1.vertex, may.1.task)
 
     -- where it has none, no update of it may take place
-    no_update : CanUpdateNone stands x → (s : ScopeId) → s.home.0 ≡ a → CanNotTakePlace stands v.now (event.Local (local.Update s))
+    no_update : CanUpdateNone represents x → (s : ScopeId) → s.home.0 ≡ a → CanNotTakePlace represents v.now (event.Local (local.Update s))
     no_update none s home st c setting of e is may =
         let there : law.MayDo st c (law.Update s) = subst (law.MayDo st c) is may.1 in
         let here : MayUpdate s (c.machine a).part c.left = subst (λ (k : ℕ). MayUpdate s (c.machine k).part c.left) home there.1 in
         none s 0 st a (c.machine a) setting (it_is st c setting of)
         (home, record { vertex = here.vertex; flight = here.flight; ready = here.ready; not_pending = here.not_pending; task = here.task; ticket = one_ticket })
 
-    pub none_of : (r : Option ScopeId) (at : MachineNo) → at.0 ≡ a → IfNone r (CanUpdateNone stands x) → IfNone r ((s : ScopeId) → s.home ≡ at → CanNotTakePlace stands own.now (event.Local (local.Update s)))
+    pub none_of : (r : Option ScopeId) (at : MachineNo) → at.0 ≡ a → IfNone r (CanUpdateNone represents x) → IfNone r ((s : ScopeId) → s.home ≡ at → CanNotTakePlace represents own.now (event.Local (local.Update s)))
     none_of None at at_is none = λ s home.
-        subst (λ (y : CourseView M). CanNotTakePlace stands y.now (event.Local (local.Update s))) view_is (no_update none s (ap (λ (m : MachineNo). m.0) home ∙ at_is))
+        subst (λ (y : TraceView M). CanNotTakePlace represents y.now (event.Local (local.Update s))) view_is (no_update none s (ap (λ (m : MachineNo). m.0) home ∙ at_is))
     none_of (Some s) at at_is none = tt
 
-    pub task_of : (r : Option ScopeId) → IfSome r (CanUpdate stands x) → IfSome r (λ s. OfTheCall stands own (λ st o c call. HasTaskLeft st call))
+    pub task_of : (r : Option ScopeId) → IfSome r (CanUpdate represents x) → IfSome r (λ s. OfTheCall represents own (λ st o c call. HasTaskLeft st call))
     task_of None can = tt
     task_of (Some s) can = λ st o events c is call makes.
-        task_left stands own st o events c is s a x (subst (λ (y : CourseView M). InEachCluster stands y.now (λ st c. stands st a (c.machine a) x)) view_is it_is) can call makes
+        task_left represents own st o events c is s a x (subst (λ (y : TraceView M). InEachCluster represents y.now (λ st c. represents st a (c.machine a) x)) view_is it_is) can call makes
 
 -- one more behind a list
 pub grown : (P : ℕ → ℕ → Type 0) (xs : List ℕ) (x : ℕ) → ((a : ℕ) → a < length xs → P a (slice_index_or xs a 0)) → P (length xs) x → (a : ℕ) → a < suc (length xs) → P a (slice_index_or (xs ++ x ∷ []) a 0)

@@ -10,10 +10,10 @@ use Rattle.cluster_laws.specs.cluster_model.Events as law
 use Rattle.cluster_laws.specs.cluster_model.Machines.{completed}
 use Rattle.whole_laws.specs.cluster_records.LineOfFour.{after_events}
 use Rattle.call_laws.proofs.cluster_attempts.Joining.{done_kept}
-use Rattle.whole_laws.proofs.cluster_ending.Courses.{setting_same}
+use Rattle.whole_laws.proofs.cluster_ending.Traces.{setting_same}
 use Rattle.whole_laws.specs.cluster_whole.Whole.{IsNoRecovery, setting_behind}
-use Rattle.cluster_step.specs.trace.Courses.{BaseView, CallOpening, Cluster, CourseView, CourseGoesOn, Engine, GoesBackWith, HasCourse, HasGoneBack, InEachCourse, IsCourseNow, IsSameAttempt, IsSavingClusterOf, IsSnapSetting, Machine, OpensCall, Parts, ArePassing, IsPassing, Setting, StartsCall, StartsSaving, StoreView, as_since, first_cluster, first_setting, newest_setting}
-use Rattle.cluster_step.specs.trace.Events.{CanHappenInCall, CanNotHappenInCall, HappensInCall, IsHeldBack, GoesOnBy, StaysThere, watched}
+use Rattle.cluster_step.specs.trace.Traces.{BaseView, CallOpening, Cluster, TraceView, TraceGoesOn, Engine, GoesBackWith, HasTrace, HasGoneBack, InEachTrace, IsTraceNow, IsSameAttempt, IsSavingClusterOf, IsSnapSetting, Machine, OpensCall, Parts, ArePassing, IsPassing, Setting, StartsCall, StartsSaving, StoreView, as_since, first_cluster, first_setting, newest_setting}
+use Rattle.cluster_step.specs.trace.Events.{CanHappenInCall, IsEventDisabled, HappensInCall, IsHeldBack, GoesOnBy, StaysThere, watched}
 use Rattle.cluster_step.specs.clusters.Clusters.{GoesOnWith, StandsForSameSaving}
 use Rattle.cluster_step.specs.clusters.Events.{CanTakePlace, CanNotTakePlace, IsNamedEvent, IsNoStop, NamesItsMachines, TakesPlace}
 use Rattle.cluster_step.specs.declared.clusters.events.Event.{Event}
@@ -22,9 +22,9 @@ use Rattle.cluster_step.specs.declared.clusters.events.Lead.TheVariants as lead
 use Rattle.cluster_step.specs.declared.clusters.events.Local.TheVariants as local
 use Rattle.cluster_step.specs.declared.clusters.events.Passage.TheVariants as passage
 use Rattle.call_laws.specs.whole_calls.Following.{FollowJob, FollowsJob, has_reached}
-use Rattle.call_laws.specs.whole_calls.Opened.{IsCourseOfCall}
+use Rattle.call_laws.specs.whole_calls.Opened.{IsTraceOfCall}
 use Rattle.call_laws.proofs.whole_calls.Leading.{behind_since}
-use Rattle.call_laws.proofs.whole_calls.WorkedPair.{course_append, follow_append}
+use Rattle.call_laws.proofs.whole_calls.WorkedPair.{trace_append, follow_append}
 
 -- ---- one event behind a course
 
@@ -32,9 +32,9 @@ pub behind_append : (xs ys : List law.Event) (st : Setting) → setting_behind s
 behind_append [] ys st = refl
 behind_append (x ∷ xs) ys st = behind_append xs ys (law.setting_after st x)
 
-pub ends_at : (events : List law.Event) (st : Setting) (a c : Cluster) → law.IsCourse st a events c → c ≡ after_events st events a
-ends_at [] st a c course = course
-ends_at (event ∷ events) st a c course = ends_at events (law.setting_after st event) (law.after_event st a event) c course.1
+pub ends_at : (events : List law.Event) (st : Setting) (a c : Cluster) → law.IsTrace st a events c → c ≡ after_events st events a
+ends_at [] st a c trace = trace
+ends_at (event ∷ events) st a c trace = ends_at events (law.setting_after st event) (law.after_event st a event) c trace.1
 
 pub setting_now : (st : Setting) (o : CallOpening) (events : List law.Event) → IsSnapSetting st → IsSnapSetting (newest_setting st o events)
 setting_now st o events setting =
@@ -86,13 +86,13 @@ passing_append : (xs : List law.Event) (e : law.Event) → ArePassing xs → IsP
 passing_append [] e all one = (one, tt)
 passing_append (x ∷ xs) e all one = (all.0, passing_append xs e all.1 one)
 
-module _ {M : Type 0} (stands : Setting → ℕ → Machine → M → Type 0) (old new : CourseView M) (failures : new.failures ≡ old.failures) where
+module _ {M : Type 0} (represents : Setting → ℕ → Machine → M → Type 0) (old new : TraceView M) (failures : new.failures ≡ old.failures) where
   -- the course goes on by the event
-  module _ (done : new.done ≡ old.done) (st : Setting) (o : CallOpening) (events : List law.Event) (c : Cluster) (is : IsCourseNow stands old st o events c) where
+  module _ (done : new.done ≡ old.done) (st : Setting) (o : CallOpening) (events : List law.Event) (c : Cluster) (is : IsTraceNow represents old st o events c) where
     abbrev now : Setting
     now = newest_setting st o events
 
-    module _ (e : law.Event) (other : IsNoRecovery e) (may : law.MayOccur now c e) (follows : FollowsJob now old.failures c e) (after : IsSavingClusterOf stands now new.now (law.after_event now c e)) where
+    module _ (e : law.Event) (other : IsNoRecovery e) (may : law.MayOccur now c e) (follows : FollowsJob now old.failures c e) (after : IsSavingClusterOf represents now new.now (law.after_event now c e)) where
       abbrev later : List law.Event
       later = events ++ e ∷ []
 
@@ -103,37 +103,37 @@ module _ {M : Type 0} (stands : Setting → ℕ → Machine → M → Type 0) (o
       same = behind_append events (e ∷ []) (first_setting st o) ∙ setting_same now e other
 
       ends : c ≡ after_events (first_setting st o) events (first_cluster st o)
-      ends = ends_at events (first_setting st o) (first_cluster st o) c is.course.course
+      ends = ends_at events (first_setting st o) (first_cluster st o) c is.trace.trace
 
-      course_on : law.IsCourse (first_setting st o) (first_cluster st o) later led
-      course_on = course_append events (e ∷ []) (first_setting st o) (first_cluster st o) c led is.course.course (may, refl)
+      trace_on : law.IsTrace (first_setting st o) (first_cluster st o) later led
+      trace_on = trace_append events (e ∷ []) (first_setting st o) (first_cluster st o) c led is.trace.trace (may, refl)
 
       follow_on : FollowJob (first_setting st o) old.failures (first_cluster st o) later
       follow_on =
-          follow_append old.failures events (e ∷ []) (first_setting st o) (first_cluster st o) is.course.follows
+          follow_append old.failures events (e ∷ []) (first_setting st o) (first_cluster st o) is.trace.follows
           (subst (λ (x : Cluster). FollowJob now old.failures x (e ∷ [])) ends (follows, tt))
 
-      course_of : IsCourseOfCall st old.failures o.kept o.resumed o.base o.first later led
-      course_of = record { is = is.course.is; coloured = is.course.coloured; opened = is.course.opened; course = course_on; follows = follow_on }
+      trace_of : IsTraceOfCall st old.failures o.kept o.resumed o.base o.first later led
+      trace_of = record { is = is.trace.is; coloured = is.trace.coloured; opened = is.trace.opened; trace = trace_on; follows = follow_on }
 
-      pub goes_on : IsCourseNow stands new st o later led
+      pub goes_on : IsTraceNow represents new st o later led
       goes_on = record {
         setting = is.setting;
-        course = subst (λ (fs : List FailureAt). IsCourseOfCall st fs o.kept o.resumed o.base o.first later led) (sym failures) course_of;
-        code = subst (λ (s : Setting). IsSavingClusterOf stands s new.now led) (sym same) after;
+        trace = subst (λ (fs : List FailureAt). IsTraceOfCall st fs o.kept o.resumed o.base o.first later led) (sym failures) trace_of;
+        code = subst (λ (s : Setting). IsSavingClusterOf represents s new.now led) (sym same) after;
         done = λ a low. done_kept now c a e may.1 other ∙ is.done a low ∙ ap (λ (ds : List ℕ). slice_index_or ds a 0) (sym done);
       }
 
   -- it stays where it is
-  pub stays : new.done ≡ old.done → ((st : Setting) (c : Cluster) → IsSnapSetting st → IsSavingClusterOf stands st old.now c → IsSavingClusterOf stands st new.now c) → StaysThere stands old new
+  pub stays : new.done ≡ old.done → ((st : Setting) (c : Cluster) → IsSnapSetting st → IsSavingClusterOf represents st old.now c → IsSavingClusterOf represents st new.now c) → StaysThere represents old new
   stays done same st o events c is = record {
     setting = is.setting;
-    course = subst (λ (fs : List FailureAt). IsCourseOfCall st fs o.kept o.resumed o.base o.first events c) (sym failures) is.course;
+    trace = subst (λ (fs : List FailureAt). IsTraceOfCall st fs o.kept o.resumed o.base o.first events c) (sym failures) is.trace;
     code = same (newest_setting st o events) c (setting_now st o events is.setting) is.code;
     done = λ a low. is.done a low ∙ ap (λ (ds : List ℕ). slice_index_or ds a 0) (sym done);
   }
 
-  pub happens : new.done ≡ old.done → (what : Event) → InEachCourse stands old (IsHeldBack old.failures what false) → TakesPlace stands old.now what new.now → HappensInCall stands old what new
+  pub happens : new.done ≡ old.done → (what : Event) → InEachTrace represents old (IsHeldBack old.failures what false) → TakesPlace represents old.now what new.now → HappensInCall represents old what new
   happens done what free takes st o events c is =
       let now : Setting = newest_setting st o events in
       let has = takes now c (setting_now st o events is.setting) is.code in
@@ -146,41 +146,41 @@ module _ {M : Type 0} (stands : Setting → ℕ → Machine → M → Type 0) (o
 
   -- as it was at that time, in both
   module _ (since : new.since ≡ old.since) (done : new.done ≡ old.done) where
-    pub since_back : (st : Setting) (o : CallOpening) (events : List law.Event) (c : Cluster) → IsCourseNow stands (as_since new) st o events c → IsCourseNow stands (as_since old) st o events c
+    pub since_back : (st : Setting) (o : CallOpening) (events : List law.Event) (c : Cluster) → IsTraceNow represents (as_since new) st o events c → IsTraceNow represents (as_since old) st o events c
     since_back st o events c is = record {
       setting = is.setting;
-      course = subst (λ (fs : List FailureAt). IsCourseOfCall st fs o.kept o.resumed o.base o.first events c) failures is.course;
-      code = subst (λ (p : Parts M). IsSavingClusterOf stands (newest_setting st o events) p c) since is.code;
+      trace = subst (λ (fs : List FailureAt). IsTraceOfCall st fs o.kept o.resumed o.base o.first events c) failures is.trace;
+      code = subst (λ (p : Parts M). IsSavingClusterOf represents (newest_setting st o events) p c) since is.code;
       done = λ a low. is.done a low ∙ ap (λ (ds : List ℕ). slice_index_or ds a 0) done;
     }
 
-    pub going_on_by : (what : Event) → GoesOnBy what → HasCourse stands old → HappensInCall stands old what new → CourseGoesOn stands (as_since new) new
+    pub going_on_by : (what : Event) → GoesOnBy what → HasTrace represents old → HappensInCall represents old what new → TraceGoesOn represents (as_since new) new
     going_on_by what none has all st o events c is =
         let before = has.goes_on st o events c (since_back st o events c is) in
         let next = all st o (events ++ before.0) before.1 before.3 in (
           before.0 ++ next.event ∷ [],
           law.after_event (newest_setting st o (events ++ before.0)) before.1 next.event,
           passing_append before.0 next.event before.2 (named_quiet what next.event none next.may.is, named_other what next.event next.may.is),
-          subst (λ (es : List law.Event). IsCourseNow stands new st o es (law.after_event (newest_setting st o (events ++ before.0)) before.1 next.event)) (append_assoc events before.0 (next.event ∷ [])) next.now,
+          subst (λ (es : List law.Event). IsTraceNow represents new st o es (law.after_event (newest_setting st o (events ++ before.0)) before.1 next.event)) (append_assoc events before.0 (next.event ∷ [])) next.now,
         )
 
-    pub going_still : HasCourse stands old → StaysThere stands old new → CourseGoesOn stands (as_since new) new
+    pub going_still : HasTrace represents old → StaysThere represents old new → TraceGoesOn represents (as_since new) new
     going_still has all st o events c is =
         let before = has.goes_on st o events c (since_back st o events c is) in
         (before.0, before.1, before.2, all st o (events ++ before.0) before.1 before.3)
 
 -- where the cluster is, it goes on from there
-module _ {M : Type 0} (stands : Setting → ℕ → Machine → M → Type 0) (v : CourseView M) (here : v.since ≡ v.now) where
-  still_now : (st : Setting) (o : CallOpening) (events : List law.Event) (c : Cluster) → IsCourseNow stands (as_since v) st o events c → IsCourseNow stands v st o events c
+module _ {M : Type 0} (represents : Setting → ℕ → Machine → M → Type 0) (v : TraceView M) (here : v.since ≡ v.now) where
+  still_now : (st : Setting) (o : CallOpening) (events : List law.Event) (c : Cluster) → IsTraceNow represents (as_since v) st o events c → IsTraceNow represents v st o events c
   still_now st o events c is =
-      record { setting = is.setting; course = is.course; code = subst (λ (p : Parts M). IsSavingClusterOf stands (newest_setting st o events) p c) here is.code; done = is.done }
+      record { setting = is.setting; trace = is.trace; code = subst (λ (p : Parts M). IsSavingClusterOf represents (newest_setting st o events) p c) here is.code; done = is.done }
 
-  pub going_from : CourseGoesOn stands (as_since v) v
+  pub going_from : TraceGoesOn represents (as_since v) v
   going_from st o events c is =
-      ([], c, tt, subst (λ (es : List law.Event). IsCourseNow stands v st o es c) (sym (append-nil events)) (still_now st o events c is))
+      ([], c, tt, subst (λ (es : List law.Event). IsTraceNow represents v st o es c) (sym (append-nil events)) (still_now st o events c is))
 
   -- the cluster is remembered anew
-  pub kept_anew : length v.done ≡ length v.now.machines.items → HasCourse stands v
+  pub kept_anew : length v.done ≡ length v.now.machines.items → HasTrace represents v
   kept_anew many = record { many = many; goes_on = going_from }
 
 -- ---- what is held back
@@ -269,38 +269,38 @@ module _ (failures : List FailureAt) (st : Setting) (o : CallOpening) (events : 
 
 -- ---- what an event answers
 
-module _ {M : Type 0} (stands : Setting → ℕ → Machine → M → Type 0) (old new : CourseView M) (failures : new.failures ≡ old.failures) (done : new.done ≡ old.done) (what : Event) where
-  pub held_so : InEachCourse stands old (IsHeldBack old.failures what true) → CanNotHappenInCall stands old what
+module _ {M : Type 0} (represents : Setting → ℕ → Machine → M → Type 0) (old new : TraceView M) (failures : new.failures ≡ old.failures) (done : new.done ≡ old.done) (what : Event) where
+  pub held_so : InEachTrace represents old (IsHeldBack old.failures what true) → IsEventDisabled represents old what
   held_so held st o events c is = λ e may. (held st o events c is).held refl e may.is may.follows
 
-  pub cannot_happen : CanNotTakePlace stands old.now what → CanNotHappenInCall stands old what
+  pub cannot_happen : CanNotTakePlace represents old.now what → IsEventDisabled represents old what
   cannot_happen cannot st o events c is = λ e may. cannot (newest_setting st o events) c (setting_now st o events is.setting) is.code e may.is may.may
 
-  pub can_happen : InEachCourse stands old (IsHeldBack old.failures what false) → CanTakePlace stands old.now what → CanHappenInCall stands old what
+  pub can_happen : InEachTrace represents old (IsHeldBack old.failures what false) → CanTakePlace represents old.now what → CanHappenInCall represents old what
   can_happen free can st o events c is =
       let some = can (newest_setting st o events) c (setting_now st o events is.setting) is.code in
       (some.0, record { is = some.1; may = some.2; follows = (free st o events c is).free refl some.0 some.1 })
 
-  pub made_so : InEachCourse stands old (IsHeldBack old.failures what false) → (r : Result (Unit {0}) Refused) → OnOk r (TakesPlace stands old.now what new.now) → OnOk r (HappensInCall stands old what new)
-  made_so free (Ok u) takes = happens stands old new failures done what free takes
+  pub made_so : InEachTrace represents old (IsHeldBack old.failures what false) → (r : Result (Unit {0}) Refused) → OnOk r (TakesPlace represents old.now what new.now) → OnOk r (HappensInCall represents old what new)
+  made_so free (Ok u) takes = happens represents old new failures done what free takes
   made_so free (Err e) takes = tt
 
-  pub unchanged_so : (r : Result (Unit {0}) Refused) → OnErr r (StandsForSameSaving stands old.now new.now) → OnErr r (StaysThere stands old new)
+  pub unchanged_so : (r : Result (Unit {0}) Refused) → OnErr r (StandsForSameSaving represents old.now new.now) → OnErr r (StaysThere represents old new)
   unchanged_so (Ok u) still = tt
-  unchanged_so (Err e) still = stays stands old new failures done still
+  unchanged_so (Err e) still = stays represents old new failures done still
 
   -- the cluster as it was at that time stays
-  pub kept_since : length new.done ≡ length new.now.machines.items → HasCourse stands old → GoesOnBy what → new.since ≡ old.since → (r : Result (Unit {0}) Refused) →
-      OnOk r (HappensInCall stands old what new) → OnErr r (StaysThere stands old new) → HasCourse stands new
-  kept_since many has none since (Ok u) all still = record { many = many; goes_on = going_on_by stands old new failures since done what none has all }
-  kept_since many has none since (Err e) all still = record { many = many; goes_on = going_still stands old new failures since done has still }
+  pub kept_since : length new.done ≡ length new.now.machines.items → HasTrace represents old → GoesOnBy what → new.since ≡ old.since → (r : Result (Unit {0}) Refused) →
+      OnOk r (HappensInCall represents old what new) → OnErr r (StaysThere represents old new) → HasTrace represents new
+  kept_since many has none since (Ok u) all still = record { many = many; goes_on = going_on_by represents old new failures since done what none has all }
+  kept_since many has none since (Err e) all still = record { many = many; goes_on = going_still represents old new failures since done has still }
 
 -- ---- where it begins
 
-module _ {M : Type 0} (stands : Setting → ℕ → Machine → M → Type 0) (xs : List M) (engine : Engine) (store : StoreView) (next left : ℕ) (p : Parts M)
-    (began : (st : Setting) (base : BaseView) (before : Cluster) → StartsSaving stands xs engine store next left st base before → IsSavingClusterOf stands (going_on st base.numbers base.number) p (law.recovers st base before))
+module _ {M : Type 0} (represents : Setting → ℕ → Machine → M → Type 0) (xs : List M) (engine : Engine) (store : StoreView) (next left : ℕ) (p : Parts M)
+    (began : (st : Setting) (base : BaseView) (before : Cluster) → StartsSaving represents xs engine store next left st base before → IsSavingClusterOf represents (going_on st base.numbers base.number) p (law.recovers st base before))
     (failures : List FailureAt) where
-  pub opens_call : (st : Setting) (o : CallOpening) → StartsCall stands xs engine store next left failures st o → OpensCall stands p failures st o
+  pub opens_call : (st : Setting) (o : CallOpening) → StartsCall represents xs engine store next left failures st o → OpensCall represents p failures st o
   opens_call st o starts = record { setting = starts.starts.setting; opened = starts.opened; code = began st o.base o.first starts.starts }
 
 -- no machine has completed an update yet
@@ -314,49 +314,49 @@ none_done (suc n) (suc a) = none_done n a
 
 -- ---- what the type shows of it
 
-module _ {M : Type 0} (stands : Setting → ℕ → Machine → M → Type 0) (v own : CourseView M) (view_is : v ≡ own) (since cluster : Parts M) where
-  abbrev later_view : CourseView M
+module _ {M : Type 0} (represents : Setting → ℕ → Machine → M → Type 0) (v own : TraceView M) (view_is : v ≡ own) (since cluster : Parts M) where
+  abbrev later_view : TraceView M
   later_view = record v { since = since; now = cluster }
 
   failures_same : later_view.failures ≡ own.failures
-  failures_same = ap (λ (x : CourseView M). x.failures) view_is
+  failures_same = ap (λ (x : TraceView M). x.failures) view_is
 
   done_same : later_view.done ≡ own.done
-  done_same = ap (λ (x : CourseView M). x.done) view_is
+  done_same = ap (λ (x : TraceView M). x.done) view_is
 
   module _ (what : Event) where
-    pub cannot_seen : CanNotTakePlace stands v.now what → CanNotHappenInCall stands own what
-    cannot_seen cannot = cannot_happen stands own later_view failures_same done_same what (subst (λ (x : CourseView M). CanNotTakePlace stands x.now what) view_is cannot)
+    pub cannot_seen : CanNotTakePlace represents v.now what → IsEventDisabled represents own what
+    cannot_seen cannot = cannot_happen represents own later_view failures_same done_same what (subst (λ (x : TraceView M). CanNotTakePlace represents x.now what) view_is cannot)
 
-    pub unchanged_seen : (r : Result (Unit {0}) Refused) → OnErr r (StandsForSameSaving stands v.now cluster) → OnErr r (StaysThere stands own later_view)
-    unchanged_seen r same = unchanged_so stands own later_view failures_same done_same what r (subst (λ (x : CourseView M). OnErr r (StandsForSameSaving stands x.now cluster)) view_is same)
+    pub unchanged_seen : (r : Result (Unit {0}) Refused) → OnErr r (StandsForSameSaving represents v.now cluster) → OnErr r (StaysThere represents own later_view)
+    unchanged_seen r same = unchanged_so represents own later_view failures_same done_same what r (subst (λ (x : TraceView M). OnErr r (StandsForSameSaving represents x.now cluster)) view_is same)
 
-    module _ (free : InEachCourse stands own (IsHeldBack own.failures what false)) where
-      pub can_seen : CanTakePlace stands v.now what → CanHappenInCall stands own what
-      can_seen can = can_happen stands own later_view failures_same done_same what free (subst (λ (x : CourseView M). CanTakePlace stands x.now what) view_is can)
+    module _ (free : InEachTrace represents own (IsHeldBack own.failures what false)) where
+      pub can_seen : CanTakePlace represents v.now what → CanHappenInCall represents own what
+      can_seen can = can_happen represents own later_view failures_same done_same what free (subst (λ (x : TraceView M). CanTakePlace represents x.now what) view_is can)
 
-      pub made_seen : (r : Result (Unit {0}) Refused) → OnOk r (TakesPlace stands v.now what cluster) → OnOk r (HappensInCall stands own what later_view)
-      made_seen r takes = made_so stands own later_view failures_same done_same what free r (subst (λ (x : CourseView M). OnOk r (TakesPlace stands x.now what cluster)) view_is takes)
+      pub made_seen : (r : Result (Unit {0}) Refused) → OnOk r (TakesPlace represents v.now what cluster) → OnOk r (HappensInCall represents own what later_view)
+      made_seen r takes = made_so represents own later_view failures_same done_same what free r (subst (λ (x : TraceView M). OnOk r (TakesPlace represents x.now what cluster)) view_is takes)
 
-      module _ (has : HasCourse stands v) (many : length cluster.machines.items ≡ length v.now.machines.items)
-          (r : Result (Unit {0}) Refused) (takes : OnOk r (TakesPlace stands v.now what cluster)) (same : OnErr r (StandsForSameSaving stands v.now cluster)) where
-        own_has : HasCourse stands own
-        own_has = subst (HasCourse stands) view_is has
+      module _ (has : HasTrace represents v) (many : length cluster.machines.items ≡ length v.now.machines.items)
+          (r : Result (Unit {0}) Refused) (takes : OnOk r (TakesPlace represents v.now what cluster)) (same : OnErr r (StandsForSameSaving represents v.now cluster)) where
+        own_has : HasTrace represents own
+        own_has = subst (HasTrace represents) view_is has
 
-        pub kept_since_seen : GoesOnBy what → since ≡ v.since → HasCourse stands later_view
+        pub kept_since_seen : GoesOnBy what → since ≡ v.since → HasTrace represents later_view
         kept_since_seen none kept =
-            kept_since stands own later_view failures_same done_same what (has.many ∙ sym many) own_has none (kept ∙ ap (λ (x : CourseView M). x.since) view_is) r (made_seen r takes) (unchanged_seen r same)
+            kept_since represents own later_view failures_same done_same what (has.many ∙ sym many) own_has none (kept ∙ ap (λ (x : TraceView M). x.since) view_is) r (made_seen r takes) (unchanged_seen r same)
 
 -- where none is asked, none of them is held back
-pub record_free : {M : Type 0} (stands : Setting → ℕ → Machine → M → Type 0) (v : CourseView M) → InEachCourse stands v (IsHeldBack v.failures (event.Lead lead.Record) false)
-record_free stands v st o events c is = others_held v.failures st o events c (event.Lead lead.Record) refl
+pub record_free : {M : Type 0} (represents : Setting → ℕ → Machine → M → Type 0) (v : TraceView M) → InEachTrace represents v (IsHeldBack v.failures (event.Lead lead.Record) false)
+record_free represents v st o events c is = others_held v.failures st o events c (event.Lead lead.Record) refl
 
 -- ---- where it goes back
 
-module _ {M : Type 0} (stands : Setting → ℕ → Machine → M → Type 0) (old new : CourseView M) (failures : new.failures ≡ old.failures) (xs : List M) (engine : Engine) (store : StoreView)
-    (dones : (a : ℕ) → a < length old.now.machines.items → InEachCourse stands old (λ st o events c. slice_index_or new.done a 0 ≡ completed (c.machine a)))
-    (recovered : (st : Setting) (c : Cluster) (base : BaseView) → GoesOnWith stands old.now xs engine store st c base → IsSavingClusterOf stands (going_on st base.numbers base.number) new.now (law.recovers st base c)) where
-  module _ (st : Setting) (o : CallOpening) (events : List law.Event) (c : Cluster) (base : BaseView) (goes : GoesBackWith stands old xs engine store st o events c base) where
+module _ {M : Type 0} (represents : Setting → ℕ → Machine → M → Type 0) (old new : TraceView M) (failures : new.failures ≡ old.failures) (xs : List M) (engine : Engine) (store : StoreView)
+    (dones : (a : ℕ) → a < length old.now.machines.items → InEachTrace represents old (λ st o events c. slice_index_or new.done a 0 ≡ completed (c.machine a)))
+    (recovered : (st : Setting) (c : Cluster) (base : BaseView) → GoesOnWith represents old.now xs engine store st c base → IsSavingClusterOf represents (going_on st base.numbers base.number) new.now (law.recovers st base c)) where
+  module _ (st : Setting) (o : CallOpening) (events : List law.Event) (c : Cluster) (base : BaseView) (goes : GoesBackWith represents old xs engine store st o events c base) where
     abbrev before : Setting
     before = newest_setting st o events
 
@@ -366,19 +366,19 @@ module _ {M : Type 0} (stands : Setting → ℕ → Machine → M → Type 0) (o
     abbrev first : Cluster
     first = law.recovers before base c
 
-    pub goes_on_with : GoesOnWith stands old.now xs engine store before c base
+    pub goes_on_with : GoesOnWith represents old.now xs engine store before c base
     goes_on_with = record { stood = goes.is.code; may = goes.may; starts = goes.starts }
 
     ends_here : c ≡ after_events (first_setting st o) events (first_cluster st o)
-    ends_here = ends_at events (first_setting st o) (first_cluster st o) c goes.is.course.course
+    ends_here = ends_at events (first_setting st o) (first_cluster st o) c goes.is.trace.trace
 
-    course_back : IsCourseOfCall st old.failures o.kept o.resumed o.base o.first again first
-    course_back = record {
-      is = goes.is.course.is;
-      coloured = goes.is.course.coloured;
-      opened = goes.is.course.opened;
-      course = course_append events (law.Recover base ∷ []) (first_setting st o) (first_cluster st o) c first goes.is.course.course (goes.may, refl);
-      follows = follow_append old.failures events (law.Recover base ∷ []) (first_setting st o) (first_cluster st o) goes.is.course.follows
+    trace_back : IsTraceOfCall st old.failures o.kept o.resumed o.base o.first again first
+    trace_back = record {
+      is = goes.is.trace.is;
+      coloured = goes.is.trace.coloured;
+      opened = goes.is.trace.opened;
+      trace = trace_append events (law.Recover base ∷ []) (first_setting st o) (first_cluster st o) c first goes.is.trace.trace (goes.may, refl);
+      follows = follow_append old.failures events (law.Recover base ∷ []) (first_setting st o) (first_cluster st o) goes.is.trace.follows
           (subst (λ (x : Cluster). FollowJob before old.failures x (law.Recover base ∷ [])) ends_here (goes.follows, tt));
     }
 
@@ -388,40 +388,40 @@ module _ {M : Type 0} (stands : Setting → ℕ → Machine → M → Type 0) (o
         let same : before.machines ≡ st.machines = ap (λ (s : Setting). s.machines) (behind_since events (first_setting st o)) in
         subst (λ (n : ℕ). a < n) (sym (many ∙ same)) low
 
-    back_now : IsCourseNow stands new st o again first
+    back_now : IsTraceNow represents new st o again first
     back_now = record {
       setting = goes.is.setting;
-      course = subst (λ (fs : List FailureAt). IsCourseOfCall st fs o.kept o.resumed o.base o.first again first) (sym failures) course_back;
-      code = subst (λ (s : Setting). IsSavingClusterOf stands s new.now first) (sym (behind_append events (law.Recover base ∷ []) (first_setting st o))) (recovered before c base goes_on_with);
+      trace = subst (λ (fs : List FailureAt). IsTraceOfCall st fs o.kept o.resumed o.base o.first again first) (sym failures) trace_back;
+      code = subst (λ (s : Setting). IsSavingClusterOf represents s new.now first) (sym (behind_append events (law.Recover base ∷ []) (first_setting st o))) (recovered before c base goes_on_with);
       done = λ a low. sym (dones a (below a low) st o events c goes.is);
     }
 
-  pub gone_back : HasGoneBack stands old xs engine store new
+  pub gone_back : HasGoneBack represents old xs engine store new
   gone_back st o events c base goes = back_now st o events c base goes
 
 -- what the type shows of it
-module _ {M : Type 0} (stands : Setting → ℕ → Machine → M → Type 0) (v own : CourseView M) (view_is : v ≡ own) (xs : List M) (engine : Engine) (store : StoreView) where
-  pub again_seen : (st : Setting) × (base : BaseView) × (before : Cluster) × StartsSaving stands xs engine store own.now.next own.now.left st base before →
-      (st : Setting) × (base : BaseView) × (before : Cluster) × StartsSaving stands xs engine store v.now.next v.now.left st base before
-  again_seen = subst (λ (x : CourseView M). (st : Setting) × (base : BaseView) × (before : Cluster) × StartsSaving stands xs engine store x.now.next x.now.left st base before) (sym view_is)
+module _ {M : Type 0} (represents : Setting → ℕ → Machine → M → Type 0) (v own : TraceView M) (view_is : v ≡ own) (xs : List M) (engine : Engine) (store : StoreView) where
+  pub again_seen : (st : Setting) × (base : BaseView) × (before : Cluster) × StartsSaving represents xs engine store own.now.next own.now.left st base before →
+      (st : Setting) × (base : BaseView) × (before : Cluster) × StartsSaving represents xs engine store v.now.next v.now.left st base before
+  again_seen = subst (λ (x : TraceView M). (st : Setting) × (base : BaseView) × (before : Cluster) × StartsSaving represents xs engine store x.now.next x.now.left st base before) (sym view_is)
 
   module _ (counts : List ℕ) (since cluster : Parts M)
-      (dones : (a : ℕ) → a < length own.now.machines.items → InEachCourse stands own (λ st o events c. slice_index_or counts a 0 ≡ completed (c.machine a)))
-      (recovered : (st : Setting) (c : Cluster) (base : BaseView) → GoesOnWith stands v.now xs engine store st c base → IsSavingClusterOf stands (going_on st base.numbers base.number) cluster (law.recovers st base c)) where
-    abbrev back_view : CourseView M
+      (dones : (a : ℕ) → a < length own.now.machines.items → InEachTrace represents own (λ st o events c. slice_index_or counts a 0 ≡ completed (c.machine a)))
+      (recovered : (st : Setting) (c : Cluster) (base : BaseView) → GoesOnWith represents v.now xs engine store st c base → IsSavingClusterOf represents (going_on st base.numbers base.number) cluster (law.recovers st base c)) where
+    abbrev back_view : TraceView M
     back_view = record v { done = counts; since = since; now = cluster }
 
-    dones_inside : (a : ℕ) → a < length v.now.machines.items → InEachCourse stands v (λ st o events c. slice_index_or counts a 0 ≡ completed (c.machine a))
-    dones_inside = subst (λ (x : CourseView M). (a : ℕ) → a < length x.now.machines.items → InEachCourse stands x (λ st o events c. slice_index_or counts a 0 ≡ completed (c.machine a))) (sym view_is) dones
+    dones_inside : (a : ℕ) → a < length v.now.machines.items → InEachTrace represents v (λ st o events c. slice_index_or counts a 0 ≡ completed (c.machine a))
+    dones_inside = subst (λ (x : TraceView M). (a : ℕ) → a < length x.now.machines.items → InEachTrace represents x (λ st o events c. slice_index_or counts a 0 ≡ completed (c.machine a))) (sym view_is) dones
 
-    gone_inside : HasGoneBack stands v xs engine store back_view
-    gone_inside = gone_back stands v back_view refl xs engine store dones_inside recovered
+    gone_inside : HasGoneBack represents v xs engine store back_view
+    gone_inside = gone_back represents v back_view refl xs engine store dones_inside recovered
 
-    pub gone_seen : HasGoneBack stands own xs engine store back_view
-    gone_seen = subst (λ (x : CourseView M). HasGoneBack stands x xs engine store back_view) view_is gone_inside
+    pub gone_seen : HasGoneBack represents own xs engine store back_view
+    gone_seen = subst (λ (x : TraceView M). HasGoneBack represents x xs engine store back_view) view_is gone_inside
 
 -- it goes on in the same attempt
-pub attempt_seen : {M : Type 0} (v own : CourseView M) → v ≡ own → (cluster : Parts M) → length cluster.machines.items ≡ length v.now.machines.items → cluster.stopped ≡ v.now.stopped → IsSameAttempt own (record v { now = cluster })
+pub attempt_seen : {M : Type 0} (v own : TraceView M) → v ≡ own → (cluster : Parts M) → length cluster.machines.items ≡ length v.now.machines.items → cluster.stopped ≡ v.now.stopped → IsSameAttempt own (record v { now = cluster })
 attempt_seen v own is cluster many stopped = record {
   start = ap (λ x. x.start) is;
   failures = ap (λ x. x.failures) is;
@@ -432,7 +432,7 @@ attempt_seen v own is cluster many stopped = record {
 }
 
 -- and is remembered
-pub attempt_anew : {M : Type 0} (v own : CourseView M) → v ≡ own → (since cluster : Parts M) → length cluster.machines.items ≡ length v.now.machines.items → cluster.stopped ≡ v.now.stopped → since ≡ cluster →
+pub attempt_anew : {M : Type 0} (v own : TraceView M) → v ≡ own → (since cluster : Parts M) → length cluster.machines.items ≡ length v.now.machines.items → cluster.stopped ≡ v.now.stopped → since ≡ cluster →
     IsSameAttempt (record own { since = cluster }) (record v { since = since; now = cluster })
 attempt_anew v own is since cluster many stopped anew = record {
   start = ap (λ x. x.start) is;
@@ -453,29 +453,29 @@ no_stop (event.Lead lead.Stop) none = absurd none
 no_stop (event.Passage what) none = tt
 
 -- it is where it was
-module _ {M : Type 0} (stands : Setting → ℕ → Machine → M → Type 0) (v own : CourseView M) (view_is : v ≡ own) (cluster : Parts M) (same : StandsForSameSaving stands v.now cluster) where
-  abbrev same_view : CourseView M
+module _ {M : Type 0} (represents : Setting → ℕ → Machine → M → Type 0) (v own : TraceView M) (view_is : v ≡ own) (cluster : Parts M) (same : StandsForSameSaving represents v.now cluster) where
+  abbrev same_view : TraceView M
   same_view = record v { now = cluster }
 
-  stays_inside : StaysThere stands v same_view
-  stays_inside = stays stands v same_view refl refl same
+  stays_inside : StaysThere represents v same_view
+  stays_inside = stays represents v same_view refl refl same
 
-  pub stays_seen : StaysThere stands own same_view
-  stays_seen = subst (λ (x : CourseView M). StaysThere stands x same_view) view_is stays_inside
+  pub stays_seen : StaysThere represents own same_view
+  stays_seen = subst (λ (x : TraceView M). StaysThere represents x same_view) view_is stays_inside
 
-  pub kept_same_seen : HasCourse stands v → length cluster.machines.items ≡ length v.now.machines.items → HasCourse stands same_view
-  kept_same_seen has many = record { many = has.many ∙ sym many; goes_on = going_still stands v same_view refl refl refl has stays_inside }
+  pub kept_same_seen : HasTrace represents v → length cluster.machines.items ≡ length v.now.machines.items → HasTrace represents same_view
+  kept_same_seen has many = record { many = has.many ∙ sym many; goes_on = going_still represents v same_view refl refl refl has stays_inside }
 
 pub on_ok : {X E P Q : Type 0} (r : Result X E) → (P → Q) → OnOk r P → OnOk r Q
 on_ok (Ok x) to p = to p
 on_ok (Err e) to p = tt
 
 -- nothing has happened since the call opened
-pub begun_now : {M : Type 0} (stands : Setting → ℕ → Machine → M → Type 0) (v : CourseView M) → ((a : ℕ) → slice_index_or v.done a 0 ≡ 0) → v.now ≡ v.start →
-    (st : Setting) (o : CallOpening) → OpensCall stands v.start v.failures st o → IsCourseNow stands v st o [] (first_cluster st o)
-begun_now stands v none same st o opens = record {
+pub begun_now : {M : Type 0} (represents : Setting → ℕ → Machine → M → Type 0) (v : TraceView M) → ((a : ℕ) → slice_index_or v.done a 0 ≡ 0) → v.now ≡ v.start →
+    (st : Setting) (o : CallOpening) → OpensCall represents v.start v.failures st o → IsTraceNow represents v st o [] (first_cluster st o)
+begun_now represents v none same st o opens = record {
   setting = opens.setting;
-  course = record { is = opens.setting.is; coloured = opens.setting.coloured; opened = opens.opened; course = refl; follows = tt };
-  code = subst (λ p. IsSavingClusterOf stands (first_setting st o) p (first_cluster st o)) (sym same) opens.code;
+  trace = record { is = opens.setting.is; coloured = opens.setting.coloured; opened = opens.opened; trace = refl; follows = tt };
+  code = subst (λ p. IsSavingClusterOf represents (first_setting st o) p (first_cluster st o)) (sym same) opens.code;
   done = λ a low. opens.opened.done a ∙ sym (none a);
 }

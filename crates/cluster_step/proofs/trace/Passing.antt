@@ -2,7 +2,7 @@
 use Rattle.std.proofs.Common.{◌≡◌, List, [], ◌∷◌, ◌++◌, refl, sym, ◌∙◌, ap, ap₂, append_assoc, subst}
 use Rattle.std.proofs.lemmas.List.{append-nil}
 use Rattle.gl_base.specs.declared.entries.Entry.{Entry}
-use Rattle.cluster_step.specs.trace.Courses.{ArePassing, BaseView, CallOpening, Cluster, IsPassing, Setting, first_cluster, first_setting, newest_setting}
+use Rattle.cluster_step.specs.trace.Traces.{ArePassing, BaseView, CallOpening, Cluster, IsPassing, Setting, first_cluster, first_setting, newest_setting}
 use Rattle.cluster_step.proofs.trace.Going.{ends_at}
 use Rattle.cluster_laws.specs.cluster_model.Events as law
 use Rattle.cluster_laws.specs.cluster_model.Leading.{Snapshot}
@@ -106,9 +106,9 @@ module _ (st : Setting) (o : CallOpening) (events : List law.Event) where
     pass_lost lost are =
         subst (AreLostIn begun at_first (events ++ more)) (append-nil lost) (lost_append events more begun at_first lost [] are (lost_pass more (setting_behind begun events) (after_events begun events at_first) all))
 
-  module _ (c : Cluster) (course : law.IsCourse begun at_first events c) where
+  module _ (c : Cluster) (trace : law.IsTrace begun at_first events c) where
     here : c ≡ after_events begun events at_first
-    here = ends_at events begun at_first c course
+    here = ends_at events begun at_first c trace
 
     -- an acknowledgement adds the snapshot that was due, and takes nothing away
     pub record_records : recorded_in begun at_first (events ++ law.Record ∷ []) ≡ recorded_in begun at_first events ++ snapshot_due c.coordinator ∷ []

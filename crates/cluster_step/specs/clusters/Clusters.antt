@@ -13,11 +13,11 @@ use Rattle.cluster_laws.specs.cluster_model.Events.{MayOccur, Recover, recovers}
 use Rattle.graph_core.specs.DataGraph.{size}
 
 -- These parts stand for this cluster of the law; and events have led to that. The coordinator's links stand behind the machines'.
-pub record IsSavingClusterOf {M : Type 0} (stands : Setting → ℕ → Machine → M → Type 0) (st : Setting) (p : Parts M) (c : Cluster) : Type 0 where
+pub record IsSavingClusterOf {M : Type 0} (represents : Setting → ℕ → Machine → M → Type 0) (st : Setting) (p : Parts M) (c : Cluster) : Type 0 where
   pub many : length p.machines.items ≡ st.machines
   pub small : st.machines < 65535
   pub links : HaveLinks p.links (suc st.machines)
-  pub machines : (a : ℕ) (d : M) → a < st.machines → stands st a (c.machine a) (slice_index_or p.machines.items a d)
+  pub machines : (a : ℕ) (d : M) → a < st.machines → represents st a (c.machine a) (slice_index_or p.machines.items a d)
   pub flags : length p.failed.items ≡ st.machines
   pub runs : (a : ℕ) → a < st.machines → (c.machine a).failed ≡ slice_index_or p.failed.items a false
   pub told : (a b : ℕ) → a < st.machines → b < st.machines → c.link a b ≡ told_on p.links a b
@@ -32,25 +32,25 @@ pub record IsSavingClusterOf {M : Type 0} (stands : Setting → ℕ → Machine 
 
 -- of each cluster of the law for which they stand
 abbrev pub InEachCluster : {M : Type 0} → (Setting → ℕ → Machine → M → Type 0) → Parts M → (Setting → Cluster → Type 0) → Type 0
-InEachCluster stands p holds = (st : Setting) (c : Cluster) → IsSnapSetting st → IsSavingClusterOf stands st p c → holds st c
+InEachCluster represents p holds = (st : Setting) (c : Cluster) → IsSnapSetting st → IsSavingClusterOf represents st p c → holds st c
 
 -- there is one
 abbrev pub StandsForSaving : {M : Type 0} → (Setting → ℕ → Machine → M → Type 0) → Parts M → Type 0
-StandsForSaving stands p = (st : Setting) × (c : Cluster) × IsSnapSetting st × IsSavingClusterOf stands st p c
+StandsForSaving represents p = (st : Setting) × (c : Cluster) × IsSnapSetting st × IsSavingClusterOf represents st p c
 
 -- they stand for the clusters for which they stood
 abbrev pub StandsForSameSaving : {M : Type 0} → (Setting → ℕ → Machine → M → Type 0) → Parts M → Parts M → Type 0
-StandsForSameSaving stands old new = InEachCluster stands old (λ st c. IsSavingClusterOf stands st new c)
+StandsForSameSaving represents old new = InEachCluster represents old (λ st c. IsSavingClusterOf represents st new c)
 
 -- ---- where it begins
 
 -- The machines begin an attempt from this base, whatever was before, in a cluster of this setting, whose engine is this one; the store is
 -- that of the base and of the graph. Of the base's order nothing is asked, nor that its numbers are the replay of that.
-pub record StartsSaving {M : Type 0} (stands : Setting → ℕ → Machine → M → Type 0) (xs : List M) (engine : Engine) (store : StoreView) (next left : ℕ) (st : Setting) (base : BaseView) (before : Cluster) : Type 0 where
+pub record StartsSaving {M : Type 0} (represents : Setting → ℕ → Machine → M → Type 0) (xs : List M) (engine : Engine) (store : StoreView) (next left : ℕ) (st : Setting) (base : BaseView) (before : Cluster) : Type 0 where
   pub setting : IsSnapSetting st
   pub led : IsEngineOf engine st.engine
   pub many : length xs ≡ st.machines
-  pub each : (a : ℕ) (d : M) → a < st.machines → stands (going_on st base.numbers base.number) a ((recovers st base before).machine a) (slice_index_or xs a d)
+  pub each : (a : ℕ) (d : M) → a < st.machines → represents (going_on st base.numbers base.number) a ((recovers st base before).machine a) (slice_index_or xs a d)
   pub vertices : size st.graph ≡ store.vertices
   pub edges : length st.graph.edges ≡ store.edges
   pub newest : base.number ≡ store.newest
@@ -59,7 +59,7 @@ pub record StartsSaving {M : Type 0} (stands : Setting → ℕ → Machine → M
   pub tickets : before.left ≡ left
 
 -- Recover may occur in this cluster, for which the parts stand, and the machines begin again from its base.
-pub record GoesOnWith {M : Type 0} (stands : Setting → ℕ → Machine → M → Type 0) (old : Parts M) (xs : List M) (engine : Engine) (store : StoreView) (st : Setting) (c : Cluster) (base : BaseView) : Type 0 where
-  pub stood : IsSavingClusterOf stands st old c
+pub record GoesOnWith {M : Type 0} (represents : Setting → ℕ → Machine → M → Type 0) (old : Parts M) (xs : List M) (engine : Engine) (store : StoreView) (st : Setting) (c : Cluster) (base : BaseView) : Type 0 where
+  pub stood : IsSavingClusterOf represents st old c
   pub may : MayOccur st c (Recover base)
-  pub starts : StartsSaving stands xs engine store old.next old.left st base c
+  pub starts : StartsSaving represents xs engine store old.next old.left st base c

@@ -99,29 +99,29 @@ is_resting failed None = false
 is_resting failed (Some a) = slice_index_or failed a false
 
 -- Such an event might occur in this cluster, and what has become of the code stands for what the event makes of it.
-pub record HasTakenPlace {M : Type 0} (stands : Setting → ℕ → Machine → M → Type 0) (st : Setting) (c : Cluster) (what : Event) (new : Parts M) : Type 0 where
+pub record HasTakenPlace {M : Type 0} (represents : Setting → ℕ → Machine → M → Type 0) (st : Setting) (c : Cluster) (what : Event) (new : Parts M) : Type 0 where
   pub event : law.Event
   pub is : IsNamedEvent what event
   pub may : law.MayOccur st c event
-  pub after : IsSavingClusterOf stands st new (law.after_event st c event)
+  pub after : IsSavingClusterOf represents st new (law.after_event st c event)
 
 abbrev pub TakesPlace : {M : Type 0} → (Setting → ℕ → Machine → M → Type 0) → Parts M → Event → Parts M → Type 0
-TakesPlace stands old what new = InEachCluster stands old (λ st c. HasTakenPlace stands st c what new)
+TakesPlace represents old what new = InEachCluster represents old (λ st c. HasTakenPlace represents st c what new)
 
 -- such an event might occur
 abbrev pub CanTakePlace : {M : Type 0} → (Setting → ℕ → Machine → M → Type 0) → Parts M → Event → Type 0
-CanTakePlace stands old what = InEachCluster stands old (λ st c. (event : law.Event) × IsNamedEvent what event × law.MayOccur st c event)
+CanTakePlace represents old what = InEachCluster represents old (λ st c. (event : law.Event) × IsNamedEvent what event × law.MayOccur st c event)
 
 -- no such event might
 abbrev pub CanNotTakePlace : {M : Type 0} → (Setting → ℕ → Machine → M → Type 0) → Parts M → Event → Type 0
-CanNotTakePlace stands old what = InEachCluster stands old (λ st c. (event : law.Event) → IsNamedEvent what event → law.MayOccur st c event → ⊥)
+CanNotTakePlace represents old what = InEachCluster represents old (λ st c. (event : law.Event) → IsNamedEvent what event → law.MayOccur st c event → ⊥)
 
 -- What a call answers: the event has happened; or it might not, and nothing has changed; or memory was wanting where it might.
-pub record AnswersEvent {M : Type 0} (stands : Setting → ℕ → Machine → M → Type 0) (old : Parts M) (what : Event) (answer : Result (Unit {0}) Refused) (new : Parts M) : Type 0 where
-  pub made : OnOk answer (TakesPlace stands old what new)
-  pub not_now : IsErrOf answer NotNow → CanNotTakePlace stands old what
-  pub no_memory : IsErrOf answer NoMemory → CanTakePlace stands old what
-  pub unchanged : OnErr answer (StandsForSameSaving stands old new)
+pub record AnswersEvent {M : Type 0} (represents : Setting → ℕ → Machine → M → Type 0) (old : Parts M) (what : Event) (answer : Result (Unit {0}) Refused) (new : Parts M) : Type 0 where
+  pub made : OnOk answer (TakesPlace represents old what new)
+  pub not_now : IsErrOf answer NotNow → CanNotTakePlace represents old what
+  pub no_memory : IsErrOf answer NoMemory → CanTakePlace represents old what
+  pub unchanged : OnErr answer (StandsForSameSaving represents old new)
 
 -- ---- an acknowledgement for which there is room
 

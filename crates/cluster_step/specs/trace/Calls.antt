@@ -7,7 +7,7 @@ use Rattle.call_laws.specs.attempts.EngineCalls.{EngineCall, call_order, lost_of
 use Rattle.call_laws.specs.attempts.Stores.{last_order, snapshots_of}
 use Rattle.cluster_laws.specs.cluster_model.Events as law
 use Rattle.cluster_laws.specs.cluster_model.Working.{half_window}
-use Rattle.cluster_step.specs.trace.Courses.{CallOpening, Cluster, CourseView, InEachCourse, Machine, Setting, first_cluster, first_setting}
+use Rattle.cluster_step.specs.trace.Traces.{CallOpening, Cluster, TraceView, InEachTrace, Machine, Setting, first_cluster, first_setting}
 use Rattle.graph_core.specs.DataGraph.{size}
 use Rattle.cluster_laws.specs.merged_logs.Merges.{IsByMachineBelow}
 use Rattle.seq_run.specs.Orders.{tasks_after}
@@ -15,7 +15,7 @@ use Rattle.whole_laws.specs.cluster_records.Few.{under_way}
 use Rattle.call_laws.specs.whole_calls.Called.{IsCallOf, KeepsWindows}
 use Rattle.call_laws.specs.whole_calls.Lost.{AreLostIn}
 use Rattle.call_laws.specs.whole_calls.Saved.{AreNextOrders, AreSnapshotsOf, fronts_in, recorded_in}
-use Rattle.call_laws.specs.whole_calls.Telling.{TellsOfCall}
+use Rattle.call_laws.specs.whole_calls.Telling.{CallReport}
 
 -- These events make this call: it keeps its windows, the snapshots that were acknowledged are its, and what waves and tickets tell is so
 -- of it.
@@ -24,7 +24,7 @@ pub record MakesCall (st : Setting) (failures : List FailureAt) (o : CallOpening
   pub windows : KeepsWindows st failures call
   pub snapshots : AreSnapshotsOf st o.base.number o.kept (recorded_in (first_setting st o) (first_cluster st o) events) (snapshots_of call)
   pub few : 0 < half_window st → length (snapshots_of call) + under_way c ≤ o.first.left / half_window st + 1
-  pub tells : TellsOfCall st o.first.left c call
+  pub tells : CallReport st o.first.left c call
   -- what the recoveries took away is what it lost
   pub lost : (lost : List Entry) → AreLostIn (first_setting st o) (first_cluster st o) events lost → lost_of call ≡ lost
   -- the orders of its snapshots are told by what their attempts began with and what their sections brought
@@ -32,12 +32,12 @@ pub record MakesCall (st : Setting) (failures : List FailureAt) (o : CallOpening
   pub owners : AllByRecursion (IsByMachineBelow st.machines) (made_of call)
 
 -- in each course, of each call that it makes
-abbrev pub OfTheCall : {M : Type 0} → (Setting → ℕ → Machine → M → Type 0) → CourseView M → (Setting → CallOpening → Cluster → EngineCall → Type 0) → Type 0
-OfTheCall stands v holds = InEachCourse stands v (λ st o events c. (call : EngineCall) → MakesCall st v.failures o events c call → holds st o c call)
+abbrev pub OfTheCall : {M : Type 0} → (Setting → ℕ → Machine → M → Type 0) → TraceView M → (Setting → CallOpening → Cluster → EngineCall → Type 0) → Type 0
+OfTheCall represents v holds = InEachTrace represents v (λ st o events c. (call : EngineCall) → MakesCall st v.failures o events c call → holds st o c call)
 
 -- each course makes one
-abbrev pub HasCall : {M : Type 0} → (Setting → ℕ → Machine → M → Type 0) → CourseView M → Type 0
-HasCall stands v = InEachCourse stands v (λ st o events c. (call : EngineCall) × MakesCall st v.failures o events c call)
+abbrev pub HasCall : {M : Type 0} → (Setting → ℕ → Machine → M → Type 0) → TraceView M → Type 0
+HasCall represents v = InEachTrace represents v (λ st o events c. (call : EngineCall) × MakesCall st v.failures o events c call)
 
 -- no task is left after the call's order, and no failure was reached in its last attempt
 pub record LeavesNothing (st : Setting) (call : EngineCall) : Type 0 where

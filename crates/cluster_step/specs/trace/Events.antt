@@ -3,7 +3,7 @@ use Rattle.std.specs.Prelude.{Bool, List, None, Option, Some, [], false, true, �
 use Rattle.gl_base.specs.declared.jobs.FailureAt.{FailureAt}
 use Rattle.gl_base.specs.declared.numbers.MachineNo.{MachineNo}
 use Rattle.cluster_laws.specs.cluster_model.Events as law
-use Rattle.cluster_step.specs.trace.Courses.{CallOpening, Cluster, CourseView, InEachCourse, IsCourseNow, Machine, Setting, newest_setting}
+use Rattle.cluster_step.specs.trace.Traces.{CallOpening, Cluster, TraceView, InEachTrace, IsTraceNow, Machine, Setting, newest_setting}
 use Rattle.cluster_step.specs.clusters.Events.{IsNamedEvent}
 use Rattle.cluster_step.specs.declared.clusters.events.Event.{Event}
 use Rattle.cluster_step.specs.declared.clusters.events.Event.TheVariants as event
@@ -19,23 +19,23 @@ pub record MayHappenInCall (st : Setting) (failures : List FailureAt) (c : Clust
   pub follows : FollowsJob st failures c event
 
 -- It has happened: the course goes on by it.
-pub record HasHappenedInCall {M : Type 0} (stands : Setting → ℕ → Machine → M → Type 0) (old : CourseView M) (what : Event) (new : CourseView M) (st : Setting) (o : CallOpening) (events : List law.Event) (c : Cluster) : Type 0 where
+pub record HasHappenedInCall {M : Type 0} (represents : Setting → ℕ → Machine → M → Type 0) (old : TraceView M) (what : Event) (new : TraceView M) (st : Setting) (o : CallOpening) (events : List law.Event) (c : Cluster) : Type 0 where
   pub event : law.Event
   pub may : MayHappenInCall (newest_setting st o events) old.failures c what event
-  pub now : IsCourseNow stands new st o (events ++ event ∷ []) (law.after_event (newest_setting st o events) c event)
+  pub now : IsTraceNow represents new st o (events ++ event ∷ []) (law.after_event (newest_setting st o events) c event)
 
-abbrev pub HappensInCall : {M : Type 0} → (Setting → ℕ → Machine → M → Type 0) → CourseView M → Event → CourseView M → Type 0
-HappensInCall stands old what new = InEachCourse stands old (HasHappenedInCall stands old what new)
+abbrev pub HappensInCall : {M : Type 0} → (Setting → ℕ → Machine → M → Type 0) → TraceView M → Event → TraceView M → Type 0
+HappensInCall represents old what new = InEachTrace represents old (HasHappenedInCall represents old what new)
 
 -- it may happen; it may not; and the cluster is where it was
-abbrev pub CanHappenInCall : {M : Type 0} → (Setting → ℕ → Machine → M → Type 0) → CourseView M → Event → Type 0
-CanHappenInCall stands old what = InEachCourse stands old (λ st o events c. (event : law.Event) × MayHappenInCall (newest_setting st o events) old.failures c what event)
+abbrev pub CanHappenInCall : {M : Type 0} → (Setting → ℕ → Machine → M → Type 0) → TraceView M → Event → Type 0
+CanHappenInCall represents old what = InEachTrace represents old (λ st o events c. (event : law.Event) × MayHappenInCall (newest_setting st o events) old.failures c what event)
 
-abbrev pub CanNotHappenInCall : {M : Type 0} → (Setting → ℕ → Machine → M → Type 0) → CourseView M → Event → Type 0
-CanNotHappenInCall stands old what = InEachCourse stands old (λ st o events c. (event : law.Event) → MayHappenInCall (newest_setting st o events) old.failures c what event → ⊥)
+abbrev pub IsEventDisabled : {M : Type 0} → (Setting → ℕ → Machine → M → Type 0) → TraceView M → Event → Type 0
+IsEventDisabled represents old what = InEachTrace represents old (λ st o events c. (event : law.Event) → MayHappenInCall (newest_setting st o events) old.failures c what event → ⊥)
 
-abbrev pub StaysThere : {M : Type 0} → (Setting → ℕ → Machine → M → Type 0) → CourseView M → CourseView M → Type 0
-StaysThere stands old new = InEachCourse stands old (IsCourseNow stands new)
+abbrev pub StaysThere : {M : Type 0} → (Setting → ℕ → Machine → M → Type 0) → TraceView M → TraceView M → Type 0
+StaysThere represents old new = InEachTrace represents old (IsTraceNow represents new)
 
 -- ---- what is held back
 

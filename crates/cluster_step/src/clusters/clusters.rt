@@ -38,7 +38,7 @@ impl<M: SavingMachine> Model for SnapCluster<M> {
 
     ghost view = { λ c. c.parts };
 
-    ghost invariant = { λ c. StandsForSaving M.stands c.parts };
+    ghost invariant = { λ c. StandsForSaving M.represents c.parts };
 }
 
 impl<M: SavingMachine> SnapCluster<M> {
@@ -54,7 +54,7 @@ impl<M: SavingMachine> SnapCluster<M> {
         left: u64,
     ) -> Result<SnapCluster<M>, NoMemory>
         requires start { (st : Setting) × (base : BaseView) × (before : Cluster) ×
-            StartsSaving M.stands machines.items engine (store_view store)
+            StartsSaving M.represents machines.items engine (store_view store)
             next left st base before }
         requires many { length machines.items < 65535 }
         requires few { next + left < 2 ^ 64 }
@@ -62,9 +62,9 @@ impl<M: SavingMachine> SnapCluster<M> {
         requires length { store.length < 2 ^ 32 }
         // It is what the law begins with, whatever was before.
         ensures began { IfOk result (λ c. (st : Setting) (base : BaseView) (before : Cluster) →
-            StartsSaving M.stands machines.items engine (store_view store)
+            StartsSaving M.represents machines.items engine (store_view store)
             next left st base before →
-            IsSavingClusterOf M.stands (going_on st base.numbers base.number) c
+            IsSavingClusterOf M.represents (going_on st base.numbers base.number) c
             (recovers st base before)) }
     {
         let parts = first_parts(alloc, machines, engine, store, next, left)?;
@@ -74,10 +74,10 @@ impl<M: SavingMachine> SnapCluster<M> {
     /// The event happens, where it may happen now.
     pub fn apply(&mut self, event: Event) -> Result<(), Refused>
         requires { NamesItsMachines (length self.old.machines.items) event }
-        ensures made { OnOk result (TakesPlace M.stands self.old event self.new) }
-        ensures not_now { IsErrOf result Refused.NotNow → CanNotTakePlace M.stands self.old event }
-        ensures no_memory { IsErrOf result Refused.NoMemory → CanTakePlace M.stands self.old event }
-        ensures unchanged { OnErr result (StandsForSameSaving M.stands self.old self.new) }
+        ensures made { OnOk result (TakesPlace M.represents self.old event self.new) }
+        ensures not_now { IsErrOf result Refused.NotNow → CanNotTakePlace M.represents self.old event }
+        ensures no_memory { IsErrOf result Refused.NoMemory → CanTakePlace M.represents self.old event }
+        ensures unchanged { OnErr result (StandsForSameSaving M.represents self.old self.new) }
         ensures machines { length self.new.machines.items ≡ length self.old.machines.items }
         ensures stopped { IsNoStop event → self.new.stopped ≡ self.old.stopped }
     {
@@ -90,12 +90,12 @@ impl<M: SavingMachine> SnapCluster<M> {
     /// its choice. Where scopes take no locks none is.
     pub fn update_at_once(&mut self, at: MachineNo) -> Result<Vertex, Refused>
         requires { at.0 < length self.old.machines.items }
-        ensures made { IfOk result (λ v. TakesPlaceAtOnce M.stands self.old at.0 v.0 self.new) }
+        ensures made { IfOk result (λ v. TakesPlaceAtOnce M.represents self.old at.0 v.0 self.new) }
         ensures not_now { IsErrOf result Refused.NotNow →
-            CanNotTakePlaceAtOnce M.stands self.old at }
+            CanNotTakePlaceAtOnce M.represents self.old at }
         ensures no_memory { IsErrOf result Refused.NoMemory →
-            CanTakePlaceAtOnce M.stands self.old at.0 }
-        ensures unchanged { OnErr result (StandsForSameSaving M.stands self.old self.new) }
+            CanTakePlaceAtOnce M.represents self.old at.0 }
+        ensures unchanged { OnErr result (StandsForSameSaving M.represents self.old self.new) }
         ensures machines { length self.new.machines.items ≡ length self.old.machines.items }
         ensures stopped { self.new.stopped ≡ self.old.stopped }
     {
@@ -115,14 +115,14 @@ impl<M: SavingMachine> SnapCluster<M> {
         store: Store,
     ) -> Result<(), NoMemory>
         requires again { (st : Setting) × (base : BaseView) × (before : Cluster) ×
-            StartsSaving M.stands machines.items engine (store_view store) self.old.next
+            StartsSaving M.represents machines.items engine (store_view store) self.old.next
             self.old.left st base before }
         requires many { length machines.items ≡ length self.old.machines.items }
         requires newest { store.newest + 1 < 2 ^ 32 }
         requires length { store.length < 2 ^ 32 }
         ensures recovered { OnOk result ((st : Setting) (c : Cluster) (base : BaseView) →
-            GoesOnWith M.stands self.old machines.items engine (store_view store) st c base →
-            IsSavingClusterOf M.stands (going_on st base.numbers base.number)
+            GoesOnWith M.represents self.old machines.items engine (store_view store) st c base →
+            IsSavingClusterOf M.represents (going_on st base.numbers base.number)
             self.new (recovers st base c)) }
         ensures unchanged { OnErr result (self.new ≡ self.old) }
         ensures machines { length self.new.machines.items ≡ length self.old.machines.items }
@@ -145,13 +145,13 @@ impl<M: SavingMachine> SnapCluster<M> {
     /// `NotNow` comes exactly where the event of `Lead::Record` may not happen. What the record has is a consistent cut.
     pub fn record(&mut self, alloc: Global) -> Result<Record, Refused>
         ensures cut { IfOk result (λ made.
-            InEachCluster M.stands self.old (λ st c. RecordsCut st c made)) }
-        ensures due { OnOk result (CanTakePlace M.stands self.old (Event.Lead Lead.Record)) }
+            InEachCluster M.represents self.old (λ st c. RecordsCut st c made)) }
+        ensures due { OnOk result (CanTakePlace M.represents self.old (Event.Lead Lead.Record)) }
         ensures not_now { IsErrOf result Refused.NotNow →
-            CanNotTakePlace M.stands self.old (Event.Lead Lead.Record) }
+            CanNotTakePlace M.represents self.old (Event.Lead Lead.Record) }
         ensures no_memory { IsErrOf result Refused.NoMemory →
-            CanTakePlace M.stands self.old (Event.Lead Lead.Record) }
-        ensures same { StandsForSameSaving M.stands self.old self.new }
+            CanTakePlace M.represents self.old (Event.Lead Lead.Record) }
+        ensures same { StandsForSameSaving M.represents self.old self.new }
         ensures machines { length self.new.machines.items ≡ length self.old.machines.items }
         ensures stopped { self.new.stopped ≡ self.old.stopped }
         ensures ready { IfOk result (λ made. IsReadyToAcknowledge self.new made.number) }
@@ -163,7 +163,7 @@ impl<M: SavingMachine> SnapCluster<M> {
     /// `Lead::Record` happens. It takes no memory.
     pub fn acknowledge(&mut self, number: u32)
         requires { IsReadyToAcknowledge self.old number }
-        ensures made { TakesPlace M.stands self.old (Event.Lead Lead.Record) self.new }
+        ensures made { TakesPlace M.represents self.old (Event.Lead Lead.Record) self.new }
         ensures machines { length self.new.machines.items ≡ length self.old.machines.items }
         ensures stopped { self.new.stopped ≡ self.old.stopped }
     {
@@ -174,12 +174,12 @@ impl<M: SavingMachine> SnapCluster<M> {
     /// acknowledged in this attempt is a consistent cut: its numbers are the replay of a valid
     /// order on the undivided graph.
     pub fn stored(&self) -> u32
-        ensures number { InEachCluster M.stands self.now (λ st c.
+        ensures number { InEachCluster M.represents self.now (λ st c.
             result ≡ c.coordinator.acknowledged) }
-        ensures cuts { InEachCluster M.stands self.now (λ st c.
+        ensures cuts { InEachCluster M.represents self.now (λ st c.
             AllByRecursion (IsSnapshotCut st c) c.coordinator.snapshots) }
         // Some cluster of the law is this one, so that what is said of all of them says something.
-        ensures cluster { StandsForSaving M.stands self.now }
+        ensures cluster { StandsForSaving M.represents self.now }
     {
         self.parts.coordinator.stored()
     }
@@ -188,7 +188,7 @@ impl<M: SavingMachine> SnapCluster<M> {
     /// the order of the updates leaves no task.
     pub fn due(&self) -> Due
         ensures due { IsDueOf self.now.coordinator result }
-        ensures ended { result ≡ Due.Ended → InEachCluster M.stands self.now HasFinishedOrder }
+        ensures ended { result ≡ Due.Ended → InEachCluster M.represents self.now HasFinishedOrder }
     {
         self.parts.coordinator.due()
     }
@@ -196,21 +196,21 @@ impl<M: SavingMachine> SnapCluster<M> {
     /// Whether the waves have shown the coordinator that nothing is left to do.
     pub fn has_seen_the_end(&self) -> bool
         ensures { IsTrue result →
-            InEachCluster M.stands self.now (λ st c. HasSeenTheEnd c.coordinator) }
+            InEachCluster M.represents self.now (λ st c. HasSeenTheEnd c.coordinator) }
     {
         self.parts.coordinator.has_seen_the_end()
     }
 
     /// The ticket of the next update.
     pub fn next(&self) -> u64
-        ensures { InEachCluster M.stands self.now (λ st c. result ≡ c.next) }
+        ensures { InEachCluster M.represents self.now (λ st c. result ≡ c.next) }
     {
         self.parts.next
     }
 
     /// How many tickets are left.
     pub fn left(&self) -> u64
-        ensures { InEachCluster M.stands self.now (λ st c. result ≡ c.left) }
+        ensures { InEachCluster M.represents self.now (λ st c. result ≡ c.left) }
     {
         self.parts.left
     }
@@ -234,9 +234,9 @@ impl<M: SavingMachine> SnapCluster<M> {
     pub fn machine(&self, m: MachineNo) -> &M
         requires { m.0 < length self.now.machines.items }
         ensures stands { slice_get self.now.machines.items m.0 ≡ Some result.now }
-        ensures is { InEachCluster M.stands self.now (λ st c.
-            M.stands st m.0 (c.machine m.0) result.now) }
-        ensures cluster { StandsForSaving M.stands self.now }
+        ensures is { InEachCluster M.represents self.now (λ st c.
+            M.represents st m.0 (c.machine m.0) result.now) }
+        ensures cluster { StandsForSaving M.represents self.now }
     {
         &self.parts.machines[m.0 as usize]
     }
@@ -245,9 +245,9 @@ impl<M: SavingMachine> SnapCluster<M> {
     /// on the undivided graph gives the numbers that the owners of the vertices have.
     pub fn log(&self, m: MachineNo) -> &[Entry]
         requires { m.0 < length self.now.machines.items }
-        ensures log { InEachCluster M.stands self.now (λ st c.
+        ensures log { InEachCluster M.represents self.now (λ st c.
             result.now ≡ (c.machine m.0).part.log) }
-        ensures order { InEachCluster M.stands self.now HasOneOrder }
+        ensures order { InEachCluster M.represents self.now HasOneOrder }
     {
         self.parts.machines[m.0 as usize].log()
     }
@@ -255,7 +255,7 @@ impl<M: SavingMachine> SnapCluster<M> {
     /// Whether the machine has failed in this attempt.
     pub fn has_failed(&self, m: MachineNo) -> bool
         requires { m.0 < length self.now.machines.items }
-        ensures { InEachCluster M.stands self.now (λ st c. result ≡ (c.machine m.0).failed) }
+        ensures { InEachCluster M.represents self.now (λ st c. result ≡ (c.machine m.0).failed) }
     {
         self.parts.has_failed(m)
     }
@@ -271,10 +271,10 @@ impl<M: SavingMachine> SnapCluster<M> {
     pub fn next_grant(&mut self, at: MachineNo) -> Option<Vertex>
         requires { at.0 < length self.old.machines.items }
         ensures some { IfSome result (λ x.
-            CanTakePlace M.stands self.old (Event.Local (Local.Grant at x))) }
+            CanTakePlace M.represents self.old (Event.Local (Local.Grant at x))) }
         ensures none { IfNone result ((x : Vertex) →
-            CanNotTakePlace M.stands self.old (Event.Local (Local.Grant at x))) }
-        ensures same { StandsForSameSaving M.stands self.old self.new }
+            CanNotTakePlace M.represents self.old (Event.Local (Local.Grant at x))) }
+        ensures same { StandsForSameSaving M.represents self.old self.new }
         ensures machines { length self.new.machines.items ≡ length self.old.machines.items }
         ensures stopped { self.new.stopped ≡ self.old.stopped }
     {
@@ -286,9 +286,9 @@ impl<M: SavingMachine> SnapCluster<M> {
         requires { at.0 < length self.now.machines.items }
         ensures home { IfSome result (λ s. s.home ≡ at) }
         ensures some { IfSome result (λ s.
-            CanTakePlace M.stands self.now (Event.Local (Local.Update s))) }
+            CanTakePlace M.represents self.now (Event.Local (Local.Update s))) }
         ensures none { IfNone result ((s : ScopeId) → s.home ≡ at →
-            CanNotTakePlace M.stands self.now (Event.Local (Local.Update s))) }
+            CanNotTakePlace M.represents self.now (Event.Local (Local.Update s))) }
     {
         self.parts.next_update(at)
     }
@@ -299,9 +299,9 @@ impl<M: SavingMachine> SnapCluster<M> {
         requires { at.0 < length self.now.machines.items }
         ensures home { IfSome result (λ s. s.home ≡ at) }
         ensures some { IfSome result (λ s.
-            CanTakePlace M.stands self.now (Event.Local (Local.Mark s))) }
+            CanTakePlace M.represents self.now (Event.Local (Local.Mark s))) }
         ensures none { IfNone result ((s : ScopeId) → s.home ≡ at →
-            CanNotTakePlace M.stands self.now (Event.Local (Local.Mark s))) }
+            CanNotTakePlace M.represents self.now (Event.Local (Local.Mark s))) }
     {
         self.parts.next_mark(at)
     }
@@ -310,10 +310,10 @@ impl<M: SavingMachine> SnapCluster<M> {
     pub fn has_section(&mut self, at: MachineNo) -> bool
         requires { at.0 < length self.old.machines.items }
         ensures yes { IsTrue result →
-            CanTakePlace M.stands self.old (Event.Local (Local.Section at)) }
+            CanTakePlace M.represents self.old (Event.Local (Local.Section at)) }
         ensures no { result ≡ false →
-            CanNotTakePlace M.stands self.old (Event.Local (Local.Section at)) }
-        ensures same { StandsForSameSaving M.stands self.old self.new }
+            CanNotTakePlace M.represents self.old (Event.Local (Local.Section at)) }
+        ensures same { StandsForSameSaving M.represents self.old self.new }
         ensures machines { length self.new.machines.items ≡ length self.old.machines.items }
     {
         self.parts.has_section(at)
@@ -323,7 +323,7 @@ impl<M: SavingMachine> SnapCluster<M> {
     pub fn has_message(&self, from: MachineNo, to: MachineNo) -> bool
         requires from { from.0 < length self.now.machines.items }
         requires to { to.0 < length self.now.machines.items }
-        ensures { InEachCluster M.stands self.now (λ st c. IsTrue result ↔
+        ensures { InEachCluster M.represents self.now (λ st c. IsTrue result ↔
             HasFirst (c.link from.0 to.0)) }
     {
         self.parts.links.has_message(from, to)
@@ -332,7 +332,7 @@ impl<M: SavingMachine> SnapCluster<M> {
     /// Whether word of the coordinator is on the link to the machine.
     pub fn has_call(&self, to: MachineNo) -> bool
         requires { to.0 < length self.now.machines.items }
-        ensures { InEachCluster M.stands self.now (λ st c. IsTrue result ↔ HasNext (c.calls to.0)) }
+        ensures { InEachCluster M.represents self.now (λ st c. IsTrue result ↔ HasNext (c.calls to.0)) }
     {
         self.parts.links.has_message(self.parts.lead(), to)
     }
@@ -340,7 +340,7 @@ impl<M: SavingMachine> SnapCluster<M> {
     /// Whether word of the machine is on the link to the coordinator.
     pub fn has_report(&self, from: MachineNo) -> bool
         requires { from.0 < length self.now.machines.items }
-        ensures { InEachCluster M.stands self.now (λ st c. IsTrue result ↔
+        ensures { InEachCluster M.represents self.now (λ st c. IsTrue result ↔
             HasNext (c.reports from.0)) }
     {
         self.parts.links.has_message(from, self.parts.lead())
@@ -349,7 +349,7 @@ impl<M: SavingMachine> SnapCluster<M> {
     /// Whether word waits at the coordinator for the machine.
     pub fn call_waits(&self, to: MachineNo) -> bool
         requires { to.0 < length self.now.machines.items }
-        ensures { InEachCluster M.stands self.now (λ st c. IsTrue result ↔
+        ensures { InEachCluster M.represents self.now (λ st c. IsTrue result ↔
             HasNext (c.coordinator.out to.0)) }
     {
         self.parts.coordinator.waits(to)
@@ -359,7 +359,7 @@ impl<M: SavingMachine> SnapCluster<M> {
     /// or is on a link.
     pub fn has_word(&self, at: MachineNo) -> bool
         requires { at.0 < length self.now.machines.items }
-        ensures { InEachCluster M.stands self.now (λ st c. (result ≡ false) ↔ HasNoWordAt c at.0) }
+        ensures { InEachCluster M.represents self.now (λ st c. (result ≡ false) ↔ HasNoWordAt c at.0) }
     {
         let waits = self.call_waits(at);
         let called = self.has_call(at);

@@ -3,7 +3,7 @@ ghost use Rattle.std.specs.Prelude.{List};
 ghost use Rattle.cluster_laws.specs.cluster_core.Recovering.{going_on};
 ghost use Rattle.cluster_laws.specs.cluster_core.Settings.{IsSetting, Setting};
 ghost use Rattle.cluster_laws.specs.cluster_model.Clusters.{BaseView, Cluster};
-ghost use Rattle.cluster_laws.specs.cluster_model.Events.{Event, IsCourse, recovers};
+ghost use Rattle.cluster_laws.specs.cluster_model.Events.{Event, IsTrace, recovers};
 ghost use Rattle.whole_laws.specs.cluster_records.Bases.{IsBase};
 ghost use Rattle.whole_laws.specs.cluster_whole.Whole.{AreColoured, setting_behind};
 ghost use Rattle.cluster_step.specs.clusters.Cuts.{HasGoodBase};
@@ -14,6 +14,6 @@ ghost use Rattle.cluster_step.specs.clusters.Cuts.{HasGoodBase};
 pub fn bases_stay_good()
     ensures { (st : Setting) (base : BaseView) (first c : Cluster) (events : List Event) →
         IsSetting st → AreColoured st st.engine → IsBase st base first.next →
-        IsCourse (going_on st base.numbers base.number) (recovers st base first) events c →
+        IsTrace (going_on st base.numbers base.number) (recovers st base first) events c →
         HasGoodBase (setting_behind (going_on st base.numbers base.number) events) c }
 {}

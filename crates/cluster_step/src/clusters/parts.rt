@@ -35,8 +35,8 @@ impl<M: SavingMachine> Parts<M> {
     /// The event happens, where it may happen now.
     pub(crate) fn make(&mut self, event: Event) -> Result<(), Refused>
         requires within { NamesItsMachines (length self.old.machines.items) event }
-        requires some { StandsForSaving M.stands self.old }
-        ensures { AnswersEvent M.stands self.old event result self.new }
+        requires some { StandsForSaving M.represents self.old }
+        ensures { AnswersEvent M.represents self.old event result self.new }
     {
         if self.stopped || self.rests(event) {
             return Err(Refused::NotNow);
@@ -72,13 +72,13 @@ impl<M: SavingMachine> Parts<M> {
     /// word of that.
     pub(crate) fn record(&mut self, alloc: Global) -> Result<Record, Refused>
         ensures cut { IfOk result (λ made.
-            InEachCluster M.stands self.old (λ st c. RecordsCut st c made)) }
-        ensures due { OnOk result (CanTakePlace M.stands self.old (Event.Lead Lead.Record)) }
+            InEachCluster M.represents self.old (λ st c. RecordsCut st c made)) }
+        ensures due { OnOk result (CanTakePlace M.represents self.old (Event.Lead Lead.Record)) }
         ensures not_now { IsErrOf result Refused.NotNow →
-            CanNotTakePlace M.stands self.old (Event.Lead Lead.Record) }
+            CanNotTakePlace M.represents self.old (Event.Lead Lead.Record) }
         ensures no_memory { IsErrOf result Refused.NoMemory →
-            CanTakePlace M.stands self.old (Event.Lead Lead.Record) }
-        ensures same { StandsForSameSaving M.stands self.old self.new }
+            CanTakePlace M.represents self.old (Event.Lead Lead.Record) }
+        ensures same { StandsForSameSaving M.represents self.old self.new }
         ensures machines { self.new.machines ≡ self.old.machines }
         ensures ready { IfOk result (λ made. IsReadyToAcknowledge self.new made.number) }
     {
@@ -91,7 +91,7 @@ impl<M: SavingMachine> Parts<M> {
     /// The snapshot of this number, whose record was made, is acknowledged. It takes no memory.
     pub(crate) fn recorded(&mut self, number: u32)
         requires { IsReadyToAcknowledge self.old number }
-        ensures made { TakesPlace M.stands self.old (Event.Lead Lead.Record) self.new }
+        ensures made { TakesPlace M.represents self.old (Event.Lead Lead.Record) self.new }
         ensures machines { self.new.machines ≡ self.old.machines }
         ensures stopped { self.new.stopped ≡ self.old.stopped }
     {
@@ -112,10 +112,10 @@ impl<M: SavingMachine> Parts<M> {
     pub(crate) fn next_grant(&mut self, at: MachineNo) -> Option<Vertex>
         requires { at.0 < length self.old.machines.items }
         ensures some { IfSome result (λ x.
-            CanTakePlace M.stands self.old (Event.Local (Local.Grant at x))) }
+            CanTakePlace M.represents self.old (Event.Local (Local.Grant at x))) }
         ensures none { IfNone result ((x : Vertex) →
-            CanNotTakePlace M.stands self.old (Event.Local (Local.Grant at x))) }
-        ensures same { StandsForSameSaving M.stands self.old self.new }
+            CanNotTakePlace M.represents self.old (Event.Local (Local.Grant at x))) }
+        ensures same { StandsForSameSaving M.represents self.old self.new }
         ensures machines { length self.new.machines.items ≡ length self.old.machines.items }
     {
         if self.is_still(at) {
@@ -127,12 +127,12 @@ impl<M: SavingMachine> Parts<M> {
     /// A scope of the machine whose update may be made.
     pub(crate) fn next_update(&self, at: MachineNo) -> Option<ScopeId>
         requires within { at.0 < length self.now.machines.items }
-        requires cluster { StandsForSaving M.stands self.now }
+        requires cluster { StandsForSaving M.represents self.now }
         ensures home { IfSome result (λ s. s.home ≡ at) }
         ensures some { IfSome result (λ s.
-            CanTakePlace M.stands self.now (Event.Local (Local.Update s))) }
+            CanTakePlace M.represents self.now (Event.Local (Local.Update s))) }
         ensures none { IfNone result ((s : ScopeId) → s.home ≡ at →
-            CanNotTakePlace M.stands self.now (Event.Local (Local.Update s))) }
+            CanNotTakePlace M.represents self.now (Event.Local (Local.Update s))) }
     {
         if self.is_still(at) || self.left == 0 {
             return None;
@@ -143,12 +143,12 @@ impl<M: SavingMachine> Parts<M> {
     /// A scope of the machine whose snapshot update may be made.
     pub(crate) fn next_mark(&self, at: MachineNo) -> Option<ScopeId>
         requires within { at.0 < length self.now.machines.items }
-        requires cluster { StandsForSaving M.stands self.now }
+        requires cluster { StandsForSaving M.represents self.now }
         ensures home { IfSome result (λ s. s.home ≡ at) }
         ensures some { IfSome result (λ s.
-            CanTakePlace M.stands self.now (Event.Local (Local.Mark s))) }
+            CanTakePlace M.represents self.now (Event.Local (Local.Mark s))) }
         ensures none { IfNone result ((s : ScopeId) → s.home ≡ at →
-            CanNotTakePlace M.stands self.now (Event.Local (Local.Mark s))) }
+            CanNotTakePlace M.represents self.now (Event.Local (Local.Mark s))) }
     {
         if self.is_still(at) {
             return None;
@@ -160,10 +160,10 @@ impl<M: SavingMachine> Parts<M> {
     pub(crate) fn has_section(&mut self, at: MachineNo) -> bool
         requires { at.0 < length self.old.machines.items }
         ensures yes { IsTrue result →
-            CanTakePlace M.stands self.old (Event.Local (Local.Section at)) }
+            CanTakePlace M.represents self.old (Event.Local (Local.Section at)) }
         ensures no { result ≡ false →
-            CanNotTakePlace M.stands self.old (Event.Local (Local.Section at)) }
-        ensures same { StandsForSameSaving M.stands self.old self.new }
+            CanNotTakePlace M.represents self.old (Event.Local (Local.Section at)) }
+        ensures same { StandsForSameSaving M.represents self.old self.new }
         ensures machines { length self.new.machines.items ≡ length self.old.machines.items }
     {
         if self.is_still(at) {
@@ -179,7 +179,7 @@ impl<M: SavingMachine> Parts<M> {
         requires awake { slice_index_or self.old.failed.items (acting_local local) false ≡ false }
         requires flags { length self.old.failed.items ≡ length self.old.machines.items }
         requires few { self.old.next + self.old.left < 2 ^ 64 }
-        ensures { AnswersEvent M.stands self.old (Event.Local local) result self.new }
+        ensures { AnswersEvent M.represents self.old (Event.Local local) result self.new }
     {
         match local {
             Local::Admit(at) => self.admit(at),
@@ -194,7 +194,7 @@ impl<M: SavingMachine> Parts<M> {
     /// The coordinator does this by itself.
     fn make_lead(&mut self, lead: Lead) -> Result<(), Refused>
         requires { self.old.stopped ≡ false }
-        ensures { AnswersEvent M.stands self.old (Event.Lead lead) result self.new }
+        ensures { AnswersEvent M.represents self.old (Event.Lead lead) result self.new }
     {
         match lead {
             Lead::Record => self.acknowledge(),
@@ -210,8 +210,8 @@ impl<M: SavingMachine> Parts<M> {
         requires within { NamesPassage (length self.old.machines.items) passage }
         requires runs { self.old.stopped ≡ false }
         requires awake { is_resting self.old.failed.items (acting_passage passage) ≡ false }
-        requires some { StandsForSaving M.stands self.old }
-        ensures { AnswersEvent M.stands self.old (Event.Passage passage) result self.new }
+        requires some { StandsForSaving M.represents self.old }
+        ensures { AnswersEvent M.represents self.old (Event.Passage passage) result self.new }
     {
         match passage {
             Passage::Send { from, to } => self.send(from, to),
@@ -228,7 +228,7 @@ impl<M: SavingMachine> Parts<M> {
         requires within { at.0 < length self.old.machines.items }
         requires runs { self.old.stopped ≡ false }
         requires awake { slice_index_or self.old.failed.items at.0 false ≡ false }
-        ensures { AnswersEvent M.stands self.old (Event.Local (Local.Admit at)) result self.new }
+        ensures { AnswersEvent M.represents self.old (Event.Local (Local.Admit at)) result self.new }
     {
         self.machines[at.0 as usize].admit()
     }
@@ -238,7 +238,7 @@ impl<M: SavingMachine> Parts<M> {
         requires within { at.0 < length self.old.machines.items }
         requires runs { self.old.stopped ≡ false }
         requires awake { slice_index_or self.old.failed.items at.0 false ≡ false }
-        ensures { AnswersEvent M.stands self.old (Event.Local (Local.Grant at x)) result self.new }
+        ensures { AnswersEvent M.represents self.old (Event.Local (Local.Grant at x)) result self.new }
     {
         self.machines[at.0 as usize].grant(x)
     }
@@ -248,7 +248,7 @@ impl<M: SavingMachine> Parts<M> {
         requires within { scope.home.0 < length self.old.machines.items }
         requires runs { self.old.stopped ≡ false }
         requires awake { slice_index_or self.old.failed.items scope.home.0 false ≡ false }
-        ensures { AnswersEvent M.stands self.old (Event.Local (Local.Mark scope)) result self.new }
+        ensures { AnswersEvent M.represents self.old (Event.Local (Local.Mark scope)) result self.new }
     {
         self.machines[scope.home.0 as usize].mark(scope)
     }
@@ -258,7 +258,7 @@ impl<M: SavingMachine> Parts<M> {
         requires within { at.0 < length self.old.machines.items }
         requires runs { self.old.stopped ≡ false }
         requires awake { slice_index_or self.old.failed.items at.0 false ≡ false }
-        ensures { AnswersEvent M.stands self.old (Event.Local (Local.Section at)) result self.new }
+        ensures { AnswersEvent M.represents self.old (Event.Local (Local.Section at)) result self.new }
     {
         self.machines[at.0 as usize].section()
     }
@@ -269,7 +269,7 @@ impl<M: SavingMachine> Parts<M> {
         requires runs { self.old.stopped ≡ false }
         requires awake { slice_index_or self.old.failed.items at.0 false ≡ false }
         requires flags { length self.old.failed.items ≡ length self.old.machines.items }
-        ensures { AnswersEvent M.stands self.old (Event.Local (Local.Fail at)) result self.new }
+        ensures { AnswersEvent M.represents self.old (Event.Local (Local.Fail at)) result self.new }
     {
         self.machines[at.0 as usize].fail();
         self.failed[at.0 as usize] = true;
@@ -282,7 +282,7 @@ impl<M: SavingMachine> Parts<M> {
         requires runs { self.old.stopped ≡ false }
         requires awake { slice_index_or self.old.failed.items scope.home.0 false ≡ false }
         requires few { self.old.next + self.old.left < 2 ^ 64 }
-        ensures { AnswersEvent M.stands self.old
+        ensures { AnswersEvent M.represents self.old
             (Event.Local (Local.Update scope)) result self.new }
     {
         if self.left == 0 {
@@ -301,8 +301,8 @@ impl<M: SavingMachine> Parts<M> {
     /// machine looks at may be now.
     pub(crate) fn update_at_once(&mut self, at: MachineNo) -> Result<Vertex, Refused>
         requires within { at.0 < length self.old.machines.items }
-        requires some { StandsForSaving M.stands self.old }
-        ensures answers { AnswersAtOnce M.stands self.old at result self.new }
+        requires some { StandsForSaving M.represents self.old }
+        ensures answers { AnswersAtOnce M.represents self.old at result self.new }
         ensures machines { length self.new.machines.items ≡ length self.old.machines.items }
         ensures stopped { self.new.stopped ≡ self.old.stopped }
     {
@@ -338,7 +338,7 @@ impl<M: SavingMachine> Parts<M> {
         requires runs { self.old.stopped ≡ false }
         requires awake { slice_index_or self.old.failed.items from.0 false ≡ false }
         requires links { HasLinkBetween self.old.links from.0 to.0 }
-        ensures { AnswersEvent M.stands self.old
+        ensures { AnswersEvent M.represents self.old
             (Event.Passage (Passage.Send from to)) result self.new }
     {
         let machine = &mut self.machines[from.0 as usize];
@@ -361,9 +361,9 @@ impl<M: SavingMachine> Parts<M> {
             (to.0 < length self.old.machines.items) }
         requires runs { self.old.stopped ≡ false }
         requires awake { slice_index_or self.old.failed.items to.0 false ≡ false }
-        requires some { StandsForSaving M.stands self.old }
+        requires some { StandsForSaving M.represents self.old }
         requires links { HasLinkBetween self.old.links from.0 to.0 }
-        ensures { AnswersEvent M.stands self.old
+        ensures { AnswersEvent M.represents self.old
             (Event.Passage (Passage.Deliver from to)) result self.new }
     {
         let Some(message) = self.links.take(from, to) else {
@@ -381,7 +381,7 @@ impl<M: SavingMachine> Parts<M> {
     /// The next snapshot begins.
     fn begin(&mut self) -> Result<(), Refused>
         requires runs { self.old.stopped ≡ false }
-        ensures { AnswersEvent M.stands self.old (Event.Lead Lead.Begin) result self.new }
+        ensures { AnswersEvent M.represents self.old (Event.Lead Lead.Begin) result self.new }
     {
         self.coordinator.begin()
     }
@@ -389,7 +389,7 @@ impl<M: SavingMachine> Parts<M> {
     /// The next step of a colour begins.
     fn step(&mut self) -> Result<(), Refused>
         requires runs { self.old.stopped ≡ false }
-        ensures { AnswersEvent M.stands self.old (Event.Lead Lead.Step) result self.new }
+        ensures { AnswersEvent M.represents self.old (Event.Lead Lead.Step) result self.new }
     {
         self.coordinator.step()
     }
@@ -397,7 +397,7 @@ impl<M: SavingMachine> Parts<M> {
     /// The coordinator puts a wave out.
     fn wave(&mut self) -> Result<(), Refused>
         requires runs { self.old.stopped ≡ false }
-        ensures { AnswersEvent M.stands self.old (Event.Lead Lead.Wave) result self.new }
+        ensures { AnswersEvent M.represents self.old (Event.Lead Lead.Wave) result self.new }
     {
         self.coordinator.wave()
     }
@@ -405,7 +405,7 @@ impl<M: SavingMachine> Parts<M> {
     /// The snapshot under way is acknowledged.
     fn acknowledge(&mut self) -> Result<(), Refused>
         requires runs { self.old.stopped ≡ false }
-        ensures { AnswersEvent M.stands self.old (Event.Lead Lead.Record) result self.new }
+        ensures { AnswersEvent M.represents self.old (Event.Lead Lead.Record) result self.new }
     {
         let number = match self.coordinator.make_ready() {
             Ok(number) => number,
@@ -418,7 +418,7 @@ impl<M: SavingMachine> Parts<M> {
     /// The run has ended.
     fn stop(&mut self) -> Result<(), Refused>
         requires runs { self.old.stopped ≡ false }
-        ensures { AnswersEvent M.stands self.old (Event.Lead Lead.Stop) result self.new }
+        ensures { AnswersEvent M.represents self.old (Event.Lead Lead.Stop) result self.new }
     {
         self.stopped = true;
         Ok(())
@@ -438,7 +438,7 @@ impl<M: SavingMachine> Parts<M> {
         requires runs { self.old.stopped ≡ false }
         requires many { length self.old.machines.items < 65535 }
         requires links { HasLinkBetween self.old.links (length self.old.machines.items) to.0 }
-        ensures { AnswersEvent M.stands self.old
+        ensures { AnswersEvent M.represents self.old
             (Event.Passage (Passage.SendCall to)) result self.new }
     {
         if !self.coordinator.waits(to) {
@@ -460,10 +460,10 @@ impl<M: SavingMachine> Parts<M> {
         requires within { to.0 < length self.old.machines.items }
         requires runs { self.old.stopped ≡ false }
         requires awake { slice_index_or self.old.failed.items to.0 false ≡ false }
-        requires some { StandsForSaving M.stands self.old }
+        requires some { StandsForSaving M.represents self.old }
         requires many { length self.old.machines.items < 65535 }
         requires links { HasLinkBetween self.old.links (length self.old.machines.items) to.0 }
-        ensures { AnswersEvent M.stands self.old
+        ensures { AnswersEvent M.represents self.old
             (Event.Passage (Passage.DeliverCall to)) result self.new }
     {
         let lead = self.lead();
@@ -486,7 +486,7 @@ impl<M: SavingMachine> Parts<M> {
         requires awake { slice_index_or self.old.failed.items from.0 false ≡ false }
         requires many { length self.old.machines.items < 65535 }
         requires links { HasLinkBetween self.old.links from.0 (length self.old.machines.items) }
-        ensures { AnswersEvent M.stands self.old
+        ensures { AnswersEvent M.represents self.old
             (Event.Passage (Passage.SendReport from)) result self.new }
     {
         let lead = self.lead();
@@ -508,10 +508,10 @@ impl<M: SavingMachine> Parts<M> {
     fn deliver_report(&mut self, from: MachineNo) -> Result<(), Refused>
         requires within { from.0 < length self.old.machines.items }
         requires runs { self.old.stopped ≡ false }
-        requires some { StandsForSaving M.stands self.old }
+        requires some { StandsForSaving M.represents self.old }
         requires many { length self.old.machines.items < 65535 }
         requires links { HasLinkBetween self.old.links from.0 (length self.old.machines.items) }
-        ensures { AnswersEvent M.stands self.old
+        ensures { AnswersEvent M.represents self.old
             (Event.Passage (Passage.DeliverReport from)) result self.new }
     {
         let lead = self.lead();
@@ -538,8 +538,8 @@ pub(crate) fn first_parts<M: SavingMachine>(
     requires newest { store.newest + 1 < 2 ^ 32 }
     requires length { store.length < 2 ^ 32 }
     ensures began { IfOk result (λ p. (st : Setting) (base : BaseView) (before : Cluster) →
-        StartsSaving M.stands machines.items engine (store_view store) next left st base before →
-        IsSavingClusterOf M.stands (going_on st base.numbers base.number) p
+        StartsSaving M.represents machines.items engine (store_view store) next left st base before →
+        IsSavingClusterOf M.represents (going_on st base.numbers base.number) p
         (recovers st base before)) }
     ensures machines { IfOk result (λ p. p.machines.items ≡ machines.items) }
 {

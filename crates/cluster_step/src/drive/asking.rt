@@ -2,17 +2,17 @@
 ghost use Rattle.std.specs.Prelude.{ℕ, ◌<◌, IsTrue};
 ghost use Rattle.call_laws.specs.whole_calls.Telling.{AsksForNone, HasNoWordAt, AwaitsNoSnapshot, LacksNoSnapshot, NeedsMoreStore};
 ghost use Rattle.cluster_laws.specs.cluster_model.Working.{half_window};
-ghost use Rattle.cluster_step.specs.drive.Pauses.{InEachCourse, OfTheCall};
+ghost use Rattle.cluster_step.specs.drive.Pauses.{InEachTrace, OfTheCall};
 
-use crate::trace::{Course, Due, SavingMachine};
+use crate::trace::{Due, SavingMachine, Trace};
 use gl_base::{MAX_SNAPSHOTS, MachineNo};
 
 /// Whether a snapshot is under way while as many are stored as may be.
-pub(crate) fn is_full<M: SavingMachine>(course: &Course<M>) -> bool
+pub(crate) fn is_full<M: SavingMachine>(trace: &Trace<M>) -> bool
     ensures { IsTrue result →
-        OfTheCall M.stands course.now (λ st o c call. NeedsMoreStore st c.coordinator call) }
+        OfTheCall M.represents trace.now (λ st o c call. NeedsMoreStore st c.coordinator call) }
 {
-    let coordinator = course.coordinator();
+    let coordinator = trace.coordinator();
     if coordinator.stored() < MAX_SNAPSHOTS {
         return false;
     }
@@ -20,47 +20,47 @@ pub(crate) fn is_full<M: SavingMachine>(course: &Course<M>) -> bool
 }
 
 /// Whether the store takes one snapshot more, or nobody asks for one.
-pub(crate) fn lacks_no_snapshot<M: SavingMachine>(course: &Course<M>) -> bool
+pub(crate) fn lacks_no_snapshot<M: SavingMachine>(trace: &Trace<M>) -> bool
     ensures { IsTrue result →
-        OfTheCall M.stands course.now (λ st o c call. LacksNoSnapshot st c.coordinator call) }
+        OfTheCall M.represents trace.now (λ st o c call. LacksNoSnapshot st c.coordinator call) }
 {
-    if course.coordinator().stored() < MAX_SNAPSHOTS {
+    if trace.coordinator().stored() < MAX_SNAPSHOTS {
         return true;
     }
-    asks_for_none(course)
+    asks_for_none(trace)
 }
 
 /// Whether nobody asks for a snapshot: none is under way or due, and no word is on its way between
 /// the coordinator and a machine.
-fn asks_for_none<M: SavingMachine>(course: &Course<M>) -> bool
+fn asks_for_none<M: SavingMachine>(trace: &Trace<M>) -> bool
     ensures { IsTrue result →
-        InEachCourse M.stands course.now (λ st o events c. 0 < half_window st → AsksForNone st c) }
+        InEachTrace M.represents trace.now (λ st o events c. 0 < half_window st → AsksForNone st c) }
 {
-    if !is_settled(course) {
+    if !is_settled(trace) {
         return false;
     }
-    has_no_word(course)
+    has_no_word(trace)
 }
 
 /// Whether no snapshot is under way, and none is due.
-fn is_settled<M: SavingMachine>(course: &Course<M>) -> bool
+fn is_settled<M: SavingMachine>(trace: &Trace<M>) -> bool
     ensures { IsTrue result →
-        InEachCourse M.stands course.now (λ st o events c. AwaitsNoSnapshot st c.coordinator) }
+        InEachTrace M.represents trace.now (λ st o events c. AwaitsNoSnapshot st c.coordinator) }
 {
-    match course.due() {
+    match trace.due() {
         Due::Snapshot(_) => false,
-        _ => !course.coordinator().is_under_way(),
+        _ => !trace.coordinator().is_under_way(),
     }
 }
 
 /// Whether no word is on its way between the coordinator and a machine.
-fn has_no_word<M: SavingMachine>(course: &Course<M>) -> bool
+fn has_no_word<M: SavingMachine>(trace: &Trace<M>) -> bool
     ensures { IsTrue result →
-        InEachCourse M.stands course.now (λ st o events c. (a : ℕ) →
+        InEachTrace M.represents trace.now (λ st o events c. (a : ℕ) →
         a < st.machines → HasNoWordAt c a) }
 {
-    for m in 0..course.machines() {
-        if course.has_word(MachineNo(m as u16)) {
+    for m in 0..trace.machines() {
+        if trace.has_word(MachineNo(m as u16)) {
             return false;
         }
     }

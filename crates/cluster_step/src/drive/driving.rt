@@ -1,10 +1,10 @@
 //! An attempt is driven until it pauses.
 ghost use Rattle.std.specs.Prelude.{◌≡◌, false, IfOk};
-ghost use Rattle.cluster_step.specs.drive.Pauses.{IsSameAttempt, PausesSo};
+ghost use Rattle.cluster_step.specs.drive.Pauses.{IsSameAttempt, PauseMeaning};
 
 use crate::drive::pauses::{Pause, pause_of};
 use crate::drive::turns::round;
-use crate::trace::{Course, SavingMachine};
+use crate::trace::{SavingMachine, Trace};
 use gl_base::NoMemory;
 use std::sync::Wait;
 
@@ -13,18 +13,18 @@ use std::sync::Wait;
 /// acknowledged, and no attempt begins.
 pub fn drive<R: Wait, M: SavingMachine>(
     rt: &R,
-    course: &mut Course<M>,
+    trace: &mut Trace<M>,
     saves_end: bool,
 ) -> Result<Pause, NoMemory>
-    ensures same { IsSameAttempt course.old course.new }
-    ensures pause { IfOk result (PausesSo M.stands course.new) }
+    ensures same { IsSameAttempt trace.old trace.new }
+    ensures pause { IfOk result (PauseMeaning M.represents trace.new) }
     ensures unsaved { IfOk result (λ pause. pause ≡ Pause.Quiet → saves_end ≡ false) }
 {
     for _ in rt.forever() {
-        if let Some(pause) = pause_of(course, saves_end) {
+        if let Some(pause) = pause_of(trace, saves_end) {
             return Ok(pause);
         }
-        round(course)?;
+        round(trace)?;
     }
     unreachable!()
 }

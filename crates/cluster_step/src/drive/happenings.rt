@@ -2,19 +2,19 @@
 ghost use Rattle.std.specs.Prelude.{◌<◌, ◌≡◌, length};
 ghost use Rattle.cluster_step.specs.drive.Pauses.{GoesOnBy, IsSameAttempt, NamesItsMachines};
 
-use crate::trace::{Course, Event, SavingMachine};
+use crate::trace::{Event, SavingMachine, Trace};
 use gl_base::{MachineNo, NoMemory, Refused};
 
 /// Makes the event, and says whether it happened.
 pub(crate) fn happens<M: SavingMachine>(
-    course: &mut Course<M>,
+    trace: &mut Trace<M>,
     event: Event,
 ) -> Result<bool, NoMemory>
-    requires names { NamesItsMachines (length course.old.now.machines.items) event }
+    requires names { NamesItsMachines (length trace.old.now.machines.items) event }
     requires none { GoesOnBy event }
-    ensures { IsSameAttempt course.old course.new }
+    ensures { IsSameAttempt trace.old trace.new }
 {
-    match course.apply(event) {
+    match trace.apply(event) {
         Ok(()) => Ok(true),
         Err(Refused::NotNow) => Ok(false),
         Err(Refused::NoMemory) => Err(NoMemory),
@@ -23,13 +23,13 @@ pub(crate) fn happens<M: SavingMachine>(
 
 /// Makes an update at once at the machine, and says whether one was made.
 pub(crate) fn is_made_at_once<M: SavingMachine>(
-    course: &mut Course<M>,
+    trace: &mut Trace<M>,
     at: MachineNo,
 ) -> Result<bool, NoMemory>
-    requires { at.0 < length course.old.now.machines.items }
-    ensures { IsSameAttempt course.old course.new }
+    requires { at.0 < length trace.old.now.machines.items }
+    ensures { IsSameAttempt trace.old trace.new }
 {
-    match course.update_at_once(at) {
+    match trace.update_at_once(at) {
         Ok(_) => Ok(true),
         Err(Refused::NotNow) => Ok(false),
         Err(Refused::NoMemory) => Err(NoMemory),
@@ -38,15 +38,15 @@ pub(crate) fn is_made_at_once<M: SavingMachine>(
 
 /// Makes the event as often as it may happen, and says whether it happened.
 pub(crate) fn exhaust<M: SavingMachine>(
-    course: &mut Course<M>,
+    trace: &mut Trace<M>,
     event: Event,
 ) -> Result<bool, NoMemory>
-    requires names { NamesItsMachines (length course.old.now.machines.items) event }
+    requires names { NamesItsMachines (length trace.old.now.machines.items) event }
     requires none { GoesOnBy event }
-    ensures { IsSameAttempt course.old course.new }
+    ensures { IsSameAttempt trace.old trace.new }
 {
     for times in 0..u64::MAX {
-        if !happens(course, event)? {
+        if !happens(trace, event)? {
             return Ok(times > 0);
         }
     }

@@ -1,9 +1,9 @@
 //! Where the rounds of an attempt pause.
 ghost use Rattle.std.specs.Prelude.{◌≡◌, false, IfNone, IfSome, IsTrue};
-ghost use Rattle.cluster_step.specs.drive.Pauses.{HasFlaggedTask, HasTaskLeft, IsReachedAt, IsSpentNow, NoneReached, OfTheCall, PausesSo};
+ghost use Rattle.cluster_step.specs.drive.Pauses.{HasFlaggedTask, HasTaskLeft, IsReachedAt, IsSpentNow, NoneReached, OfTheCall, PauseMeaning};
 
 use crate::drive::asking::{is_full, lacks_no_snapshot};
-use crate::trace::{Course, Due, SavingMachine};
+use crate::trace::{Due, SavingMachine, Trace};
 use gl_base::MachineNo;
 
 /// Why the rounds of an attempt pause.
@@ -25,40 +25,40 @@ pub enum Pause {
 }
 
 /// The pause, where the course is at one; and whether the end of the call is saved.
-pub(crate) fn pause_of<M: SavingMachine>(course: &Course<M>, saves_end: bool) -> Option<Pause>
-    ensures pause { IfSome result (PausesSo M.stands course.now) }
+pub(crate) fn pause_of<M: SavingMachine>(trace: &Trace<M>, saves_end: bool) -> Option<Pause>
+    ensures pause { IfSome result (PauseMeaning M.represents trace.now) }
     ensures unsaved { IfSome result (λ pause. pause ≡ Pause.Quiet → saves_end ≡ false) }
 {
-    match first_reached(course) {
+    match first_reached(trace) {
         Some(m) => Some(Pause::Reached(m)),
-        None => quiet_pause(course, saves_end),
+        None => quiet_pause(trace, saves_end),
     }
 }
 
 /// The pause, where no machine has reached the count of a failure.
-fn quiet_pause<M: SavingMachine>(course: &Course<M>, saves_end: bool) -> Option<Pause>
-    requires { NoneReached M.stands course.now }
-    ensures pause { IfSome result (PausesSo M.stands course.now) }
+fn quiet_pause<M: SavingMachine>(trace: &Trace<M>, saves_end: bool) -> Option<Pause>
+    requires { NoneReached M.represents trace.now }
+    ensures pause { IfSome result (PauseMeaning M.represents trace.now) }
     ensures unsaved { IfSome result (λ pause. pause ≡ Pause.Quiet → saves_end ≡ false) }
 {
-    match course.due() {
+    match trace.due() {
         Due::Record(number) => Some(Pause::Record(number)),
         Due::Ended => Some(Pause::Ended),
-        _ => last_pause(course, saves_end),
+        _ => last_pause(trace, saves_end),
     }
 }
 
 /// The pause, where neither a record is due nor the end.
-fn last_pause<M: SavingMachine>(course: &Course<M>, saves_end: bool) -> Option<Pause>
-    requires { NoneReached M.stands course.now }
-    ensures pause { IfSome result (PausesSo M.stands course.now) }
+fn last_pause<M: SavingMachine>(trace: &Trace<M>, saves_end: bool) -> Option<Pause>
+    requires { NoneReached M.represents trace.now }
+    ensures pause { IfSome result (PauseMeaning M.represents trace.now) }
     ensures unsaved { IfSome result (λ pause. pause ≡ Pause.Quiet → saves_end ≡ false) }
 {
-    if !saves_end && course.leaves_nothing() {
+    if !saves_end && trace.leaves_nothing() {
         Some(Pause::Quiet)
-    } else if is_full(course) {
+    } else if is_full(trace) {
         Some(Pause::Full)
-    } else if is_spent(course) {
+    } else if is_spent(trace) {
         Some(Pause::Spent)
     } else {
         None
@@ -67,27 +67,27 @@ fn last_pause<M: SavingMachine>(course: &Course<M>, saves_end: bool) -> Option<P
 
 /// Whether no ticket is left of the budget, and a task is; and a store that has as many snapshots
 /// as may be lacks none.
-pub(crate) fn is_spent<M: SavingMachine>(course: &Course<M>) -> bool
-    ensures spent { IsTrue result → IsSpentNow M.stands course.now }
-    ensures task { IsTrue result → HasFlaggedTask M.stands course.now }
+pub(crate) fn is_spent<M: SavingMachine>(trace: &Trace<M>) -> bool
+    ensures spent { IsTrue result → IsSpentNow M.represents trace.now }
+    ensures task { IsTrue result → HasFlaggedTask M.represents trace.now }
 {
-    if course.left() > 0 {
+    if trace.left() > 0 {
         return false;
     }
-    if !has_task(course) {
+    if !has_task(trace) {
         return false;
     }
-    lacks_no_snapshot(course)
+    lacks_no_snapshot(trace)
 }
 
 /// The first machine that has reached the count of a failure.
-pub(crate) fn first_reached<M: SavingMachine>(course: &Course<M>) -> Option<MachineNo>
-    ensures some { IfSome result (IsReachedAt M.stands course.now) }
-    ensures none { IfNone result (NoneReached M.stands course.now) }
+pub(crate) fn first_reached<M: SavingMachine>(trace: &Trace<M>) -> Option<MachineNo>
+    ensures some { IfSome result (IsReachedAt M.represents trace.now) }
+    ensures none { IfNone result (NoneReached M.represents trace.now) }
 {
-    for m in 0..course.machines() {
+    for m in 0..trace.machines() {
         let at = MachineNo(m as u16);
-        if course.has_reached(at) {
+        if trace.has_reached(at) {
             return Some(at);
         }
     }
@@ -95,13 +95,13 @@ pub(crate) fn first_reached<M: SavingMachine>(course: &Course<M>) -> Option<Mach
 }
 
 /// Whether a machine has a scope that is ready for its update, so that a task is left.
-fn has_task<M: SavingMachine>(course: &Course<M>) -> bool
+fn has_task<M: SavingMachine>(trace: &Trace<M>) -> bool
     ensures left { IsTrue result →
-        OfTheCall M.stands course.now (λ st o c call. HasTaskLeft st call) }
-    ensures here { IsTrue result → HasFlaggedTask M.stands course.now }
+        OfTheCall M.represents trace.now (λ st o c call. HasTaskLeft st call) }
+    ensures here { IsTrue result → HasFlaggedTask M.represents trace.now }
 {
-    for m in 0..course.machines() {
-        if let Some(_) = course.next_update(MachineNo(m as u16)) {
+    for m in 0..trace.machines() {
+        if let Some(_) = trace.next_update(MachineNo(m as u16)) {
             return true;
         }
     }

@@ -5,7 +5,7 @@ ghost use Rattle.cluster_step.specs.drive.Unsaved.{PausesUnsaved};
 
 use crate::drive::pauses::{first_reached, is_spent};
 use crate::drive::turns::round;
-use crate::trace::{Course, SavingMachine};
+use crate::trace::{SavingMachine, Trace};
 use gl_base::{MachineNo, NoMemory};
 use std::sync::Wait;
 
@@ -25,38 +25,38 @@ pub enum UnsavedPause {
 /// begins.
 pub fn drive_unsaved<R: Wait, M: SavingMachine>(
     rt: &R,
-    course: &mut Course<M>,
+    trace: &mut Trace<M>,
 ) -> Result<UnsavedPause, NoMemory>
-    ensures same { IsSameAttempt course.old course.new }
-    ensures pause { IfOk result (PausesUnsaved M.stands course.new) }
+    ensures same { IsSameAttempt trace.old trace.new }
+    ensures pause { IfOk result (PausesUnsaved M.represents trace.new) }
 {
     for _ in rt.forever() {
-        if let Some(pause) = unsaved_pause(course) {
+        if let Some(pause) = unsaved_pause(trace) {
             return Ok(pause);
         }
-        round(course)?;
+        round(trace)?;
     }
     unreachable!()
 }
 
 /// The pause, where the course is at one.
-fn unsaved_pause<M: SavingMachine>(course: &Course<M>) -> Option<UnsavedPause>
-    ensures { IfSome result (PausesUnsaved M.stands course.now) }
+fn unsaved_pause<M: SavingMachine>(trace: &Trace<M>) -> Option<UnsavedPause>
+    ensures { IfSome result (PausesUnsaved M.represents trace.now) }
 {
-    match first_reached(course) {
+    match first_reached(trace) {
         Some(m) => Some(UnsavedPause::Reached(m)),
-        None => unsaved_end(course),
+        None => unsaved_end(trace),
     }
 }
 
 /// The pause, where no machine has reached the count of a failure.
-fn unsaved_end<M: SavingMachine>(course: &Course<M>) -> Option<UnsavedPause>
-    requires { NoneReached M.stands course.now }
-    ensures { IfSome result (PausesUnsaved M.stands course.now) }
+fn unsaved_end<M: SavingMachine>(trace: &Trace<M>) -> Option<UnsavedPause>
+    requires { NoneReached M.represents trace.now }
+    ensures { IfSome result (PausesUnsaved M.represents trace.now) }
 {
-    if course.leaves_nothing() {
+    if trace.leaves_nothing() {
         Some(UnsavedPause::Quiet)
-    } else if is_spent(course) {
+    } else if is_spent(trace) {
         Some(UnsavedPause::Spent)
     } else {
         None

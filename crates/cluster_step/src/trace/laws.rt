@@ -1,8 +1,8 @@
 //! Laws of courses. Each is the contract of a function that does nothing.
 ghost use Rattle.std.specs.Prelude.{List, [], ◌++◌, ◌∷◌, ◌≡◌};
 ghost use Rattle.gl_base.specs.declared.entries.Entry.{Entry};
-ghost use Rattle.cluster_step.specs.trace.Courses.{ArePassing, BaseView, CallOpening, Cluster, Setting, first_cluster, first_setting, newest_setting};
-ghost use Rattle.cluster_laws.specs.cluster_model.Events.{Event, IsCourse, Record, Recover};
+ghost use Rattle.cluster_step.specs.trace.Traces.{ArePassing, BaseView, CallOpening, Cluster, Setting, first_cluster, first_setting, newest_setting};
+ghost use Rattle.cluster_laws.specs.cluster_model.Events.{Event, IsTrace, Record, Recover};
 ghost use Rattle.whole_laws.specs.cluster_records.Recorded.{snapshot_due};
 ghost use Rattle.call_laws.specs.whole_calls.Lost.{AreLostIn, TakesAway};
 ghost use Rattle.call_laws.specs.whole_calls.Saved.{fronts_in, recorded_in};
@@ -10,7 +10,7 @@ ghost use Rattle.call_laws.specs.whole_calls.Saved.{fronts_in, recorded_in};
 /// What events add to the snapshots that were acknowledged, with the orders that their attempts
 /// began with, and to what recoveries took away: passing events add nothing, an acknowledgement
 /// adds the snapshot that was due, and going back adds what it takes away.
-pub fn courses_add_up()
+pub fn traces_add_up()
     ensures passing { (st : Setting) (o : CallOpening) (events more : List Event)
         (lost : List Entry) → ArePassing more →
         AreLostIn (first_setting st o) (first_cluster st o) events lost →
@@ -20,7 +20,7 @@ pub fn courses_add_up()
         (first_setting st o) (first_cluster st o) events)
         × AreLostIn (first_setting st o) (first_cluster st o) (events ++ more) lost }
     ensures records { (st : Setting) (o : CallOpening) (events : List Event) (c : Cluster)
-        (lost : List Entry) → IsCourse (first_setting st o) (first_cluster st o) events c →
+        (lost : List Entry) → IsTrace (first_setting st o) (first_cluster st o) events c →
         AreLostIn (first_setting st o) (first_cluster st o) events lost →
         (recorded_in (first_setting st o) (first_cluster st o) (events ++ Record ∷ []) ≡ recorded_in
         (first_setting st o) (first_cluster st o) events ++ snapshot_due c.coordinator ∷ [])
@@ -29,7 +29,7 @@ pub fn courses_add_up()
         × AreLostIn (first_setting st o) (first_cluster st o) (events ++ Record ∷ []) lost }
     ensures recoveries { (st : Setting) (o : CallOpening) (events : List Event) (c : Cluster)
         (base : BaseView) (lost gone : List Entry) →
-        IsCourse (first_setting st o) (first_cluster st o) events c →
+        IsTrace (first_setting st o) (first_cluster st o) events c →
         AreLostIn (first_setting st o) (first_cluster st o) events lost →
         TakesAway (newest_setting st o events) c base gone →
         (recorded_in (first_setting st o) (first_cluster st o) (events ++ Recover base ∷ []) ≡

@@ -21,22 +21,22 @@ pub record MayUpdateWithin (st : Setting) (a v : ℕ) (m : Machine) : Type 0 whe
   pub room : has_room st m ≡ true
 
 -- it has: what has become of the code stands for what that makes of the machine
-pub record IsUpdatedWithin {M : Type 0} (stands : Setting → ℕ → Machine → M → Type 0) (v ticket : ℕ) (new : M) (st : Setting) (a : ℕ) (m : Machine) : Type 0 where
+pub record IsUpdatedWithin {M : Type 0} (represents : Setting → ℕ → Machine → M → Type 0) (v ticket : ℕ) (new : M) (st : Setting) (a : ℕ) (m : Machine) : Type 0 where
   pub may : MayUpdateWithin st a v m
   pub after : Machine
   pub done : AreDone st a (deeds_at_once st a v ticket m) m after
-  pub here : stands st a after new
+  pub here : represents st a after new
 
 -- ---- for each machine of the law that it is
 
 abbrev pub HasUpdatedAtOnce : {M : Type 0} → (Setting → ℕ → Machine → M → Type 0) → M → ℕ → ℕ → M → Type 0
-HasUpdatedAtOnce stands old v ticket new = OfEach stands old (IsUpdatedWithin stands v ticket new)
+HasUpdatedAtOnce represents old v ticket new = OfEach represents old (IsUpdatedWithin represents v ticket new)
 
 -- some vertex may be updated at once
 abbrev pub CanUpdateAtOnce : {M : Type 0} → (Setting → ℕ → Machine → M → Type 0) → M → Type 0
-CanUpdateAtOnce stands x = (v : ℕ) × OfEach stands x (λ st a m. MayUpdateWithin st a v m)
+CanUpdateAtOnce represents x = (v : ℕ) × OfEach represents x (λ st a m. MayUpdateWithin st a v m)
 
 -- of no vertex may a scope be admitted, or of one may a scope be admitted that may not be updated at once
 abbrev pub CanNotUpdateAtOnce : {M : Type 0} → (Setting → ℕ → Machine → M → Type 0) → M → Type 0
-CanNotUpdateAtOnce stands x =
-    CanNotAdmit stands x ⊎ ((v : ℕ) × OfEach stands x (λ st a m. MayBeDone st a m (Admit v) × (MayUpdateWithin st a v m → ⊥)))
+CanNotUpdateAtOnce represents x =
+    CanNotAdmit represents x ⊎ ((v : ℕ) × OfEach represents x (λ st a m. MayBeDone st a m (Admit v) × (MayUpdateWithin st a v m → ⊥)))

@@ -3,7 +3,7 @@ pub use Rattle.wire.specs.wire_msgs.Views.{DoneView, MessageView, message_view}
 use Rattle.std.specs.Prelude.{List, map, ℕ}
 use Rattle.gl_base.specs.declared.numbers.MachineNo.{MachineNo}
 use Rattle.cluster_laws.specs.cluster_core.Messages.{Ask, Done, Message, News, Ready}
-use Rattle.partition.specs.machine_numbers.Views.{is_named, number_told}
+use Rattle.partition.specs.machine_numbers.Views.{is_in_update, number_told}
 use Rattle.wire.specs.wire_msgs.Views as wire
 use Rattle.wire.specs.declared.wire_msgs.messages.Message as sent
 
@@ -14,8 +14,8 @@ news_read d =
       centre = d.centre.0;
       datum = d.datum;
       edges = number_told d.edges;
-      wakes = is_named d.wakes;
-      pends = is_named d.pends;
+      wakes = is_in_update d.wakes;
+      pends = is_in_update d.pends;
       number = d.number;
     }
 
@@ -41,5 +41,5 @@ message_read (wire.Step colour) = no_word
 message_read (wire.Want acknowledged) = no_word
 
 -- the same of the message itself
-abbrev pub told_by : sent.Message → Message
-told_by m = message_read (message_view m)
+abbrev pub view_of : sent.Message → Message
+view_of m = message_read (message_view m)

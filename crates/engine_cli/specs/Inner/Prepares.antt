@@ -13,8 +13,8 @@ use Rattle.job_io.specs.declared.job_files.inputs.Input.{Input}
 use Rattle.job_io.specs.declared.job_files.jobs.JobVerb.{JobVerb}
 use Rattle.job_io.specs.declared.job_files.jobs.JobVerb.TheVariants as verb
 use Rattle.job_io.specs.job_stores.NewStores.{UsesDisk}
-use Rattle.job_io.specs.declared.job_stores.making.NoStore.{NoStore}
-use Rattle.job_io.specs.declared.job_stores.making.NoStore.TheVariants as no_store
+use Rattle.job_io.specs.declared.job_stores.making.StoreError.{StoreError}
+use Rattle.job_io.specs.declared.job_stores.making.StoreError.TheVariants as no_store
 use Rattle.graph_text.specs.order_text.Orders.{IsEntryOf}
 use Rattle.engine_runs.specs.declared.answers.runs.StoredEnd.{StoredEnd}
 use Rattle.engine_runs.specs.declared.answers.runs.StoredEnd.TheVariants as end
@@ -23,10 +23,10 @@ use Rattle.call_laws.specs.whole_calls.Following.{AreJobFailures}
 use Rattle.engine_cli.specs.declared.running.Prepared.{Prepared}
 use Rattle.engine_cli.specs.declared.status.Status.{Status}
 use Rattle.engine_cli.specs.declared.status.Status.TheVariants.{BudgetSpent, DiskFault, SnapshotsFull}
-use Rattle.engine_cli.specs.Inner.Storing.{IsWhyNoStoredRun}
+use Rattle.engine_cli.specs.Inner.Storing.{RunOnStoreErrorCause}
 use Rattle.engine_cli.specs.JobRuns.{RunsSo, is_resumed}
 use Rattle.engine_cli.specs.Plays.{HasEdgesFor}
-use Rattle.engine_cli.specs.Says.{Refuses}
+use Rattle.engine_cli.specs.StatusMeanings.{Refuses}
 
 -- a verb that runs a job
 abbrev pub IsOfRun : JobVerb → Type 0
@@ -57,9 +57,9 @@ pub record IsMadeRun (told : Bool) (asked : JobVerb) (input : Input) (old new : 
   pub fault : run.end ≡ end.DiskFault → Rose old.disks.faults new.disks.faults
 
 -- why none was made, without a store or with this one
-abbrev pub IsWhyNoneMade : Bool → JobVerb → Input → FilesState → FilesState → Option (List ℕ) → NoStore → Type 0
-IsWhyNoneMade told asked input old new None why = why ≡ no_store.NoMemory
-IsWhyNoneMade told asked input old new (Some name) why = IsWhyNoStoredRun told (is_resumed asked) name input old new why
+abbrev pub RunInputErrorCause : Bool → JobVerb → Input → FilesState → FilesState → Option (List ℕ) → StoreError → Type 0
+RunInputErrorCause told asked input old new None why = why ≡ no_store.NoMemory
+RunInputErrorCause told asked input old new (Some name) why = RunOnStoreErrorCause told (is_resumed asked) name input old new why
 
 -- nothing changed, or what the use of this disk changes
 abbrev pub UsesNamed : Option (List ℕ) → FilesState → FilesState → Type 0

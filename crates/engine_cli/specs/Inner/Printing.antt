@@ -9,7 +9,7 @@ use Rattle.graph_text.specs.order_text.Answers.{answer_text}
 use Rattle.graph_text.specs.order_text.Orders.{order_text}
 use Rattle.engine_cli.specs.declared.running.Prepared.{Prepared}
 use Rattle.engine_cli.specs.Answer.{Printed, report_of}
-use Rattle.engine_cli.specs.Says.{FailsAtOrder, FailsAtOut, LeavesOrder, Moment}
+use Rattle.engine_cli.specs.StatusMeanings.{FailsAtOrder, FailsAtOut, LeavesOrder, Moment}
 
 -- what is printed of a run
 abbrev pub printed_of : Bool → Prepared → Printed

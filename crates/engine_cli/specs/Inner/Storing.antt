@@ -15,8 +15,8 @@ use Rattle.job_io.specs.declared.job_files.inputs.Input.{Input}
 use Rattle.placement.specs.plans.Plays.{IsPlacement}
 use Rattle.job_io.specs.job_stores.JobHeaders.{header_for}
 use Rattle.job_io.specs.job_stores.NewStores.{IfDisksTold}
-use Rattle.job_io.specs.declared.job_stores.making.NoStore.{NoStore}
-use Rattle.job_io.specs.declared.job_stores.making.NoStore.TheVariants as no_store
+use Rattle.job_io.specs.declared.job_stores.making.StoreError.{StoreError}
+use Rattle.job_io.specs.declared.job_stores.making.StoreError.TheVariants as no_store
 use Rattle.store.specs.declared.snap_journal.faults.JournalFault.{JournalFault}
 use Rattle.store.specs.declared.snap_journal.faults.JournalFault.TheVariants as journal
 use Rattle.store.specs.declared.store_format.faults.StoreFault.{StoreFault}
@@ -61,13 +61,13 @@ IsNotGood job g cut p header bodies =
     → 65 + records_size bodies ≤ 2 ^ 30 → ⊥
 
 -- Why there is no run of this program. Where it is told what the disk holds, a store is refused only where it is not good, and keeps what it had.
-abbrev pub IsWhyNoneStored : Type 0 → JobSayings → DataGraph → Cut → Update → Header → List (List ℕ) → DiskPast → DiskPast → ℕ → ℕ → JournalFault → Type 0
-IsWhyNoneStored told job g cut p header bodies old new before now journal.DiskFault = Rose before now × (told → new ≡ old)
-IsWhyNoneStored told job g cut p header bodies old new before now (journal.BadStore fault) =
+abbrev pub RunStoredErrorCause : Type 0 → JobSayings → DataGraph → Cut → Update → Header → List (List ℕ) → DiskPast → DiskPast → ℕ → ℕ → JournalFault → Type 0
+RunStoredErrorCause told job g cut p header bodies old new before now journal.DiskFault = Rose before now × (told → new ≡ old)
+RunStoredErrorCause told job g cut p header bodies old new before now (journal.BadStore fault) =
     told → IsNotGood job g cut p header bodies × ((new ≡ old) ⊎ IsStoreKept job g cut p header bodies old new)
-IsWhyNoneStored told job g cut p header bodies old new before now (journal.Full stored length) = ⊥
-IsWhyNoneStored told job g cut p header bodies old new before now journal.Failed = ⊥
-IsWhyNoneStored told job g cut p header bodies old new before now journal.NoMemory = told → (new ≡ old) ⊎ IsStoreKept job g cut p header bodies old new
+RunStoredErrorCause told job g cut p header bodies old new before now (journal.Full stored length) = ⊥
+RunStoredErrorCause told job g cut p header bodies old new before now journal.Failed = ⊥
+RunStoredErrorCause told job g cut p header bodies old new before now journal.NoMemory = told → (new ≡ old) ⊎ IsStoreKept job g cut p header bodies old new
 
 -- The store has these snapshots, which are none unless the run is resumed. It is not good, and no run came from it. The fault tells where it ended.
 pub record IsNotGoneOnFrom (resumed : Bool) (job : JobSayings) (g : DataGraph) (cut : Cut) (p : Update) (header : Header) (bodies : List (List ℕ)) (old new : DiskPast) (fault : StoreFault) : Type 0 where
@@ -77,27 +77,27 @@ pub record IsNotGoneOnFrom (resumed : Bool) (job : JobSayings) (g : DataGraph) (
   pub kept : (new ≡ old) ⊎ IsStoreKept job g cut p header bodies old new
 
 -- the same of the job, from a store that may have to be new
-abbrev pub IsWhyNotOnJournal : Type 0 → Bool → JobSayings → DataGraph → Cut → Update → Header → List (List ℕ) → DiskPast → DiskPast → ℕ → ℕ → NoStore → Type 0
-IsWhyNotOnJournal told resumed job g cut p header bodies old new before now (no_store.BadStore fault) =
+abbrev pub RunOnJournalErrorCause : Type 0 → Bool → JobSayings → DataGraph → Cut → Update → Header → List (List ℕ) → DiskPast → DiskPast → ℕ → ℕ → StoreError → Type 0
+RunOnJournalErrorCause told resumed job g cut p header bodies old new before now (no_store.BadStore fault) =
     told → ((resumed ≡ false) × (0 < length bodies) × (fault ≡ Used (length bodies)) × (new ≡ old)) ⊎ IsNotGoneOnFrom resumed job g cut p header bodies old new fault
-IsWhyNotOnJournal told resumed job g cut p header bodies old new before now no_store.DiskFault = Rose before now × (told → new ≡ old)
-IsWhyNotOnJournal told resumed job g cut p header bodies old new before now no_store.NoMemory = told → (new ≡ old) ⊎ IsStoreKept job g cut p header bodies old new
+RunOnJournalErrorCause told resumed job g cut p header bodies old new before now no_store.DiskFault = Rose before now × (told → new ≡ old)
+RunOnJournalErrorCause told resumed job g cut p header bodies old new before now no_store.NoMemory = told → (new ≡ old) ⊎ IsStoreKept job g cut p header bodies old new
 
 -- the same, from what the disk has
-abbrev pub IsWhyNotOnDisk : Type 0 → Bool → JobSayings → DataGraph → Cut → DiskPast → DiskPast → ℕ → ℕ → NoStore → Type 0
-IsWhyNotOnDisk told resumed job g cut old new before now (no_store.BadStore fault) =
+abbrev pub RunOnDiskErrorCause : Type 0 → Bool → JobSayings → DataGraph → Cut → DiskPast → DiskPast → ℕ → ℕ → StoreError → Type 0
+RunOnDiskErrorCause told resumed job g cut old new before now (no_store.BadStore fault) =
     told → (RefusesStore resumed (header_for job.fields g) old.now.seen fault × KeepsImages old new) ⊎ IsNotRunFrom resumed job g cut old new fault
-IsWhyNotOnDisk told resumed job g cut old new before now no_store.DiskFault = Rose before now × (told → KeepsImages old new)
-IsWhyNotOnDisk told resumed job g cut old new before now no_store.NoMemory = told → KeepsImages old new ⊎ KeepsGoing job g cut old new
+RunOnDiskErrorCause told resumed job g cut old new before now no_store.DiskFault = Rose before now × (told → KeepsImages old new)
+RunOnDiskErrorCause told resumed job g cut old new before now no_store.NoMemory = told → KeepsImages old new ⊎ KeepsGoing job g cut old new
 
 -- the same of the disk of this name
-abbrev pub IsWhyNoStoredRun : Bool → Bool → List ℕ → Input → FilesState → FilesState → NoStore → Type 0
-IsWhyNoStoredRun told resumed name input old new (no_store.BadStore fault) =
+abbrev pub RunOnStoreErrorCause : Bool → Bool → List ℕ → Input → FilesState → FilesState → StoreError → Type 0
+RunOnStoreErrorCause told resumed name input old new (no_store.BadStore fault) =
     IfDisksTold told old ((RefusesStore resumed (header_for (job_view input.job).fields input.graph) (old.pasts name).now.seen fault × KeepsImages (old.pasts name) (new.pasts name))
     ⊎ IsNotRunFrom resumed (job_view input.job) input.graph input.cut (old.pasts name) (new.pasts name) fault)
-IsWhyNoStoredRun told resumed name input old new no_store.DiskFault =
+RunOnStoreErrorCause told resumed name input old new no_store.DiskFault =
     Rose old.disks.faults new.disks.faults × IfDisksTold told old (KeepsImages (old.pasts name) (new.pasts name))
-IsWhyNoStoredRun told resumed name input old new no_store.NoMemory =
+RunOnStoreErrorCause told resumed name input old new no_store.NoMemory =
     IfDisksTold told old (KeepsImages (old.pasts name) (new.pasts name) ⊎ KeepsGoing (job_view input.job) input.graph input.cut (old.pasts name) (new.pasts name))
 
 -- the run is one of the job on the disk of this name, and ended by a fault of the disk only where there was one
@@ -106,12 +106,12 @@ pub record IsRunIntoStore (told resumed : Bool) (name : List ℕ) (input : Input
   pub fault : run.end ≡ end.DiskFault → Rose old.disks.faults new.disks.faults
 
 -- a store was not opened whose file was not
-abbrev pub no_store_of_open : OpenFault → NoStore
+abbrev pub no_store_of_open : OpenFault → StoreError
 no_store_of_open open_fault.Failed = no_store.DiskFault
 no_store_of_open open_fault.NoMemory = no_store.NoMemory
 
 -- a store could not be used; one that is open is not full before the run
-abbrev pub no_store_of_journal : JournalFault → NoStore
+abbrev pub no_store_of_journal : JournalFault → StoreError
 no_store_of_journal journal.DiskFault = no_store.DiskFault
 no_store_of_journal (journal.BadStore fault) = no_store.BadStore fault
 no_store_of_journal (journal.Full stored length) = no_store.DiskFault
@@ -119,7 +119,7 @@ no_store_of_journal journal.Failed = no_store.DiskFault
 no_store_of_journal journal.NoMemory = no_store.NoMemory
 
 -- no run came from a store that was open, and has so many bytes: one that is not as calls leave it is bad where it ends
-abbrev pub no_store_of_run : JournalFault → ℕ → NoStore
+abbrev pub no_store_of_run : JournalFault → ℕ → StoreError
 no_store_of_run journal.DiskFault length = no_store.DiskFault
 no_store_of_run (journal.BadStore fault) length = no_store.BadStore (BadByte length)
 no_store_of_run (journal.Full stored bytes) length = no_store.DiskFault

@@ -9,8 +9,8 @@ use Rattle.gl_base.specs.declared.snapshots.Record.{Record}
 use Rattle.call_laws.specs.attempts.EngineCalls.{EngineCall, ticket_above}
 use Rattle.call_laws.specs.attempts.Entries.{is_restart}
 use Rattle.cluster_step.proofs.trace.Calling.{due_first}
-use Rattle.cluster_step.specs.trace.Courses.{IsCourseNow, newest_setting}
-use Rattle.cluster_step.specs.trace.Events.{CanHappenInCall, CanNotHappenInCall, HappensInCall, HasHappenedInCall, StaysThere}
+use Rattle.cluster_step.specs.trace.Traces.{IsTraceNow, newest_setting}
+use Rattle.cluster_step.specs.trace.Events.{CanHappenInCall, IsEventDisabled, HappensInCall, HasHappenedInCall, StaysThere}
 use Rattle.cluster_laws.specs.cluster_model.Events as law
 use Rattle.cluster_laws.specs.cluster_model.Leading.{HasStoreRoom, RecordIsDue, Snapshot, come_or, record_length}
 use Rattle.cluster_laws.specs.cluster_model.Totals.{total, total_from}
@@ -36,14 +36,14 @@ use Rattle.store.proofs.store_format.ReadBackLemmas.{entries_of_record}
 use Rattle.store.specs.store_format.Bodies.{IsBody, body_size, entry_count}
 use Rattle.store.specs.store_format.StoredOrders.{body_entries}
 use Rattle.engine_runs.proofs.stores.Keeping.{grows}
-use Rattle.engine_runs.specs.stores.Stores.{IsKnownCourse, KeepsUp, first_cluster, first_setting, fronts_in, recorded_in}
+use Rattle.engine_runs.specs.stores.Stores.{IsKnownTrace, KeepsUp, first_cluster, first_setting, fronts_in, recorded_in}
 use Rattle.recovery.proofs.records.Going.{goes_with, grows_up, next_is}
 use Rattle.recovery.specs.records.Keeping.{IsNextOrder}
 use Rattle.graph_text.specs.sync_folds.Folds.{fold_of}
 use Rattle.call_laws.proofs.whole_calls.Leading.{behind_since, since}
 use Rattle.call_laws.specs.whole_calls.Following.{FollowsJob}
 use Rattle.call_laws.specs.whole_calls.Telling.{NeedsMoreStore}
-use Rattle.engine_runs.specs.append.Appends.{CallOpening, Cluster, CourseView, Header, IsDueWith, IsGoodImage, IsInForm, IsNewestLine, IsRecordBehind, IsRecordWith, Machine, MakesCall, Restarts, Setting, SnapLine, fold_in, stored_order}
+use Rattle.engine_runs.specs.append.Appends.{CallOpening, Cluster, TraceView, Header, IsDueWith, IsGoodImage, IsInForm, IsNewestLine, IsRecordBehind, IsRecordWith, Machine, MakesCall, Restarts, Setting, SnapLine, fold_in, stored_order}
 use Rattle.engine_runs.specs.append.Folds.{IsFoldOf}
 use Rattle.engine_runs.specs.append.Inner.Storing.{IsWithRecord}
 
@@ -92,10 +92,10 @@ brought_long (suc n) snapshot =
 
 -- ---- what is so of each course
 
-module _ {M : Type 0} (stands : Setting → ℕ → Machine → M → Type 0) (old mid new : CourseView M) (failures : mid.failures ≡ old.failures) (stays : StaysThere stands old mid) where
-  pub happened : (what : Event) → HappensInCall stands mid what new → HappensInCall stands old what new
+module _ {M : Type 0} (represents : Setting → ℕ → Machine → M → Type 0) (old mid new : TraceView M) (failures : mid.failures ≡ old.failures) (stays : StaysThere represents old mid) where
+  pub happened : (what : Event) → HappensInCall represents mid what new → HappensInCall represents old what new
   happened what happens st o events c is =
-      let has : HasHappenedInCall stands mid what new st o events c = happens st o events c (stays st o events c is) in
+      let has : HasHappenedInCall represents mid what new st o events c = happens st o events c (stays st o events c is) in
       record {
         event = has.event;
         may = record {
@@ -106,7 +106,7 @@ module _ {M : Type 0} (stands : Setting → ℕ → Machine → M → Type 0) (o
         now = has.now;
       }
 
-module _ {M : Type 0} (stands : Setting → ℕ → Machine → M → Type 0) (v : CourseView M) (st : Setting) (o : CallOpening) (events : List law.Event) (c : Cluster) (is : IsCourseNow stands v st o events c) where
+module _ {M : Type 0} (represents : Setting → ℕ → Machine → M → Type 0) (v : TraceView M) (st : Setting) (o : CallOpening) (events : List law.Event) (c : Cluster) (is : IsTraceNow represents v st o events c) where
   abbrev last : Setting
   last = newest_setting st o events
 
@@ -127,24 +127,24 @@ module _ {M : Type 0} (stands : Setting → ℕ → Machine → M → Type 0) (v
   long_first = ap (λ (s : Setting). record_length s (λ a. come_or (c.coordinator.come a))) (behind_since events (first_setting st o))
 
   -- the snapshot may be acknowledged
-  module _ (can : CanHappenInCall stands v (event.Lead lead.Record)) where
+  module _ (can : CanHappenInCall represents v (event.Lead lead.Record)) where
     may_record : law.MayOccur last c law.Record
     may_record =
         let one = can st o events c is in
         subst (law.MayOccur last c) one.1.is one.1.may
 
     pub is_due : RecordIsDue st c.coordinator
-    is_due = due_first stands v st o events c is may_record.1.0
+    is_due = due_first represents v st o events c is may_record.1.0
 
     pub has_room : HasStoreRoom st c.coordinator
     has_room = room_first may_record.1.1
 
   -- it may not, since there is no room for it
-  module _ (cannot : CanNotHappenInCall stands v (event.Lead lead.Record)) (k : ℕ) (record_due : IsDueOf v.now.coordinator (due.Record k)) (call : EngineCall) (makes : MakesCall st v.failures o events c call) (runs : c.stopped ≡ false) where
+  module _ (cannot : IsEventDisabled represents v (event.Lead lead.Record)) (k : ℕ) (record_due : IsDueOf v.now.coordinator (due.Record k)) (call : EngineCall) (makes : MakesCall st v.failures o events c call) (runs : c.stopped ≡ false) where
     pub needs_more : NeedsMoreStore st c.coordinator call
     needs_more =
         let there : RecordIsDue last c.coordinator = ((record_due.saved last c.coordinator k is.code.coordinator).0 refl).0 in
-        makes.tells.full (due_first stands v st o events c is there)
+        makes.tells.full (due_first represents v st o events c is there)
         (λ room. cannot st o events c is law.Record (record { is = refl; may = (runs, (there, room_last room)); follows = tt }))
 
 -- ---- a store of which all is known
@@ -183,8 +183,8 @@ not_few n k few is many = omega arith
 not_long : (place rl size long lb : ℕ) → place + rl ≤ 1073741824 → place + rl ≡ 65 + (size + (9 + lb)) → long ≡ 65 + size → 2 ^ 30 < long + (9 + lb) → ⊥
 not_long place rl size long lb short is long_is over = omega arith
 
-module _ {M : Type 0} (stands : Setting → ℕ → Machine → M → Type 0) (v : CourseView M) (header : Header) (start bodies : List (List ℕ)) (lost stored front order : List Entry)
-    (st : Setting) (o : CallOpening) (k : IsKnownCourse stands v header start bodies lost stored front order st o)
+module _ {M : Type 0} (represents : Setting → ℕ → Machine → M → Type 0) (v : TraceView M) (header : Header) (start bodies : List (List ℕ)) (lost stored front order : List Entry)
+    (st : Setting) (o : CallOpening) (k : IsKnownTrace represents v header start bodies lost stored front order st o)
     (made : Record) (with_it : IsRecordWith st stored front k.was.cluster made) where
   abbrev c : Cluster
   c = k.was.cluster
@@ -214,7 +214,7 @@ module _ {M : Type 0} (stands : Setting → ℕ → Machine → M → Type 0) (v
       (count : ℕ) (counts : count ≡ length bodies) (fits : NumbersFit made) where
     number_is : made.number ≡ 1 + count
     number_is =
-        with_it.number ∙ next_due st v.failures o.kept o.resumed o.base o.first k.was.events c k.was.now.course record_due
+        with_it.number ∙ next_due st v.failures o.kept o.resumed o.base o.first k.was.events c k.was.now.trace record_due
         ∙ one_above c.coordinator.acknowledged (length bodies) count k.count counts
 
     entries_few : length made.entries.items < 2 ^ 32
@@ -224,14 +224,14 @@ module _ {M : Type 0} (stands : Setting → ℕ → Machine → M → Type 0) (v
 
     formed_fits : RecordFits made
     formed_fits =
-        due_fits st v.failures o.kept o.resumed o.base o.first k.was.events c header (stored_order bodies) made k.was.now.course record_due k.fits.machines k.fits.n k.fits.m missing_is entries_few
+        due_fits st v.failures o.kept o.resumed o.base o.first k.was.events c header (stored_order bodies) made k.was.now.trace record_due k.fits.machines k.fits.n k.fits.m missing_is entries_few
         (vertices_few header.n (size st.graph) c.coordinator.store_end (total st.machines (λ a. length (come_or (c.coordinator.come a)).entries)) st.machines (length st.graph.edges) k.fits.n room.short)
         (edges_few header.m (length st.graph.edges) c.coordinator.store_end (total st.machines (λ a. length (come_or (c.coordinator.come a)).entries)) st.machines (size st.graph) k.fits.m room.short)
 
     tickets_low : o.first.next + o.first.left < 33554432 * made.number
     tickets_low =
         within_bound o.first.next o.first.left (length start) (length k.was.keeps.added) (length bodies) count made.number
-        (subst (λ (n : ℕ). n ≤ 33554432 * length start) (sym (k.was.now.course.opened.next ∙ ap ticket_above k.kept)) (start_low header bytes start k.was.keeps.added (sym bodies_are ∙ k.was.keeps.stored)))
+        (subst (λ (n : ℕ). n ≤ 33554432 * length start) (sym (k.was.now.trace.opened.next ∙ ap ticket_above k.kept)) (start_low header bytes start k.was.keeps.added (sym bodies_are ∙ k.was.keeps.stored)))
         left (ap (length {A = List ℕ}) k.was.keeps.stored ∙ length-append start k.was.keeps.added) counts number_is
 
     pub formed : IsInForm header count made
@@ -240,7 +240,7 @@ module _ {M : Type 0} (stands : Setting → ℕ → Machine → M → Type 0) (v
           number = number_is;
           fits = formed_fits;
           form = subst (λ (n : ℕ). IsBody header n (body_bytes made)) number_is
-              (due_form st v.failures o.kept o.resumed o.base o.first k.was.events c header (stored_order bodies) made k.was.now.course record_due k.fits.machines k.fits.n k.fits.m missing_is with_it.in_turn formed_fits fits
+              (due_form st v.failures o.kept o.resumed o.base o.first k.was.events c header (stored_order bodies) made k.was.now.trace record_due k.fits.machines k.fits.n k.fits.m missing_is with_it.in_turn formed_fits fits
               (number_few made.number c.coordinator.acknowledged (length bodies) count number_is k.count counts room.few) tickets_low);
         }
 
@@ -258,12 +258,12 @@ module _ {M : Type 0} (stands : Setting → ℕ → Machine → M → Type 0) (v
 
     module _ (record_due : RecordIsDue st c.coordinator) where
       pub grown : KeepsUp st v.failures header start (fronts_in (first_setting st o) (first_cluster st o) k.was.events ++ c.base.order ∷ []) (recorded_in (first_setting st o) (first_cluster st o) k.was.events ++ snapshot_due c.coordinator ∷ []) (bodies ++ body ∷ [])
-      grown = grows_up st v.failures o.kept o.resumed o.base o.first k.was.events c k.was.now.course header start bodies k.kept k.was.keeps record_due made missing_is small fits machines_are
+      grown = grows_up st v.failures o.kept o.resumed o.base o.first k.was.events c k.was.now.trace header start bodies k.kept k.was.keeps record_due made missing_is small fits machines_are
 
       pub restarts_are : front ≡ filter is_restart (stored_order (bodies ++ body ∷ []))
       restarts_are =
           let next : IsNextOrder st c.base.order (stored_order bodies) (snapshot_due c.coordinator) (with_entries (stored_order bodies) made.entries.items) =
-          next_is st v.failures o.kept o.resumed o.base o.first k.was.events c k.was.now.course header start bodies k.kept k.was.keeps record_due made missing_is
+          next_is st v.failures o.kept o.resumed o.base o.first k.was.events c k.was.now.trace header start bodies k.kept k.was.keeps record_due made missing_is
           in
           front_now ∙ sym next.restarts ∙ ap (filter is_restart) (sym order_is)
 
@@ -271,7 +271,7 @@ module _ {M : Type 0} (stands : Setting → ℕ → Machine → M → Type 0) (v
           IsNewestLine st v.failures (bodies ++ body ∷ []) line
       line_is line n number next counts entries fold =
           let goes : GoesWith (shared_of st v.failures) bodies made =
-          goes_with st v.failures o.kept o.resumed o.base o.first k.was.events c k.was.now.course header start bodies k.kept k.was.keeps record_due made missing_is
+          goes_with st v.failures o.kept o.resumed o.base o.first k.was.events c k.was.now.trace header start bodies k.kept k.was.keeps record_due made missing_is
           in
           let number_of : ℕ → ℕ = (replay st.graph st.program (stored_order (bodies ++ body ∷ []))).vertex in
           record {
@@ -311,10 +311,10 @@ module _ {M : Type 0} (stands : Setting → ℕ → Machine → M → Type 0) (v
 
 -- ---- what is known of it afterwards
 
-module _ {M : Type 0} (stands : Setting → ℕ → Machine → M → Type 0) (v : CourseView M) (can : CanHappenInCall stands v (event.Lead lead.Record))
+module _ {M : Type 0} (represents : Setting → ℕ → Machine → M → Type 0) (v : TraceView M) (can : CanHappenInCall represents v (event.Lead lead.Record))
     (header : Header) (start bodies : List (List ℕ)) (lost order : List Entry) (restarts : Restarts) (st : Setting) (o : CallOpening)
-    (k : IsKnownCourse stands v header start bodies lost restarts.stored.items restarts.front.items order st o)
-    (made : Record) (n : ℕ) (behind : IsDueWith stands v restarts made) (fits : NumbersFit made) where
+    (k : IsKnownTrace represents v header start bodies lost restarts.stored.items restarts.front.items order st o)
+    (made : Record) (n : ℕ) (behind : IsDueWith represents v restarts made) (fits : NumbersFit made) where
   abbrev at : Cluster
   at = k.was.cluster
 
@@ -322,44 +322,44 @@ module _ {M : Type 0} (stands : Setting → ℕ → Machine → M → Type 0) (v
   with_here = behind st o k.was.events at k.was.now
 
   due_here : RecordIsDue st at.coordinator
-  due_here = is_due stands v st o k.was.events at k.was.now can
+  due_here = is_due represents v st o k.was.events at k.was.now can
 
   pub in_form : (bytes : List ℕ) → bodies ≡ stored_in header bytes → o.first.left < 33554432 → n ≡ length bodies → IsInForm header n made
   in_form bytes bodies_are left counts =
-      formed stands v header start bodies lost restarts.stored.items restarts.front.items order st o k made with_here (has_room stands v st o k.was.events at k.was.now can) due_here bytes bodies_are left n counts fits
+      formed represents v header start bodies lost restarts.stored.items restarts.front.items order st o k made with_here (has_room represents v st o k.was.events at k.was.now can) due_here bytes bodies_are left n counts fits
 
   module _ (form : IsInForm header n made) where
     pub line_added : (line : SnapLine) → n ≡ length bodies → line.number ≡ made.number → line.entries ≡ length (stored_order (bodies ++ body_bytes made ∷ [])) → IsFoldOf header.n made (fold_in line) →
         IsNewestLine st v.failures (bodies ++ body_bytes made ∷ []) line
     line_added line counts number entries fold =
-        line_is stands v header start bodies lost restarts.stored.items restarts.front.items order st o k made with_here form.fits fits due_here line n number form.number counts entries fold
+        line_is represents v header start bodies lost restarts.stored.items restarts.front.items order st o k made with_here form.fits fits due_here line n number form.number counts entries fold
 
     pub never_full : (long : ℕ) → n ≡ length bodies → long ≡ 65 + records_size bodies → IsFullFor n long (9 + length (body_bytes made)) → ⊥
     never_full long counts long_at full =
-        not_full stands v header start bodies lost restarts.stored.items restarts.front.items order st o k made with_here form.fits fits (1 + n) form.form n long
-        (has_room stands v st o k.was.events at k.was.now can) counts long_at full
+        not_full represents v header start bodies lost restarts.stored.items restarts.front.items order st o k made with_here form.fits fits (1 + n) form.form n long
+        (has_room represents v st o k.was.events at k.was.now can) counts long_at full
 
     -- acknowledged
-    module _ (new : CourseView M) (failures_are : new.failures ≡ v.failures) (happens : HappensInCall stands v (event.Lead lead.Record) new) (counts : n ≡ length bodies) where
+    module _ (new : TraceView M) (failures_are : new.failures ≡ v.failures) (happens : HappensInCall represents v (event.Lead lead.Record) new) (counts : n ≡ length bodies) where
       abbrev newest : Setting
       newest = newest_setting st o k.was.events
 
-      pub known_now : IsKnownCourse stands new header start (bodies ++ body_bytes made ∷ []) lost restarts.front.items restarts.front.items order st o
+      pub known_now : IsKnownTrace represents new header start (bodies ++ body_bytes made ∷ []) lost restarts.front.items restarts.front.items order st o
       unfolding grows
       known_now = record {
         kept = k.kept;
-        was = grows stands v new failures_are header start bodies lost st o made happens k.was k.kept
-            (missing_is stands v header start bodies lost restarts.stored.items restarts.front.items order st o k made with_here)
-            (λ st failures kept resumed base first events c header start bodies made course kept_is keeps due is small fits machines. grows_up st failures kept resumed base first events c course header start bodies kept_is keeps due made is small fits machines)
-            form.fits fits (machines_are stands v header start bodies lost restarts.stored.items restarts.front.items order st o k made with_here form.fits fits);
+        was = grows represents v new failures_are header start bodies lost st o made happens k.was k.kept
+            (missing_is represents v header start bodies lost restarts.stored.items restarts.front.items order st o k made with_here)
+            (λ st failures kept resumed base first events c header start bodies made trace kept_is keeps due is small fits machines. grows_up st failures kept resumed base first events c trace header start bodies kept_is keeps due made is small fits machines)
+            form.fits fits (machines_are represents v header start bodies lost restarts.stored.items restarts.front.items order st o k made with_here form.fits fits);
         fits = k.fits;
-        stored_are = restarts_are stands v header start bodies lost restarts.stored.items restarts.front.items order st o k made with_here form.fits fits due_here;
+        stored_are = restarts_are represents v header start bodies lost restarts.stored.items restarts.front.items order st o k made with_here form.fits fits due_here;
         base = k.base;
         front_are = k.front_are;
         count = sym with_here.number ∙ form.number ∙ next_too n (length bodies) counts ∙ sym (length_push bodies (body_bytes made));
         place = more_placed (at.coordinator.store_end + record_length newest (λ a. come_or (at.coordinator.come a))) (records_size (bodies ++ body_bytes made ∷ [])) (length restarts.front.items)
-            (ap (λ (l : ℕ). at.coordinator.store_end + l) (long_first stands v st o k.was.events at k.was.now)
-            ∙ placed_is stands v header start bodies lost restarts.stored.items restarts.front.items order st o k made with_here form.fits fits (1 + n) form.form
+            (ap (λ (l : ℕ). at.coordinator.store_end + l) (long_first represents v st o k.was.events at k.was.now)
+            ∙ placed_is represents v header start bodies lost restarts.stored.items restarts.front.items order st o k made with_here form.fits fits (1 + n) form.form
             ∙ ap (λ (l : ℕ). 65 + l) (sym (size_push bodies (body_bytes made))));
       }
 
@@ -369,5 +369,5 @@ module _ {M : Type 0} (stands : Setting → ℕ → Machine → M → Type 0) (v
     stored = bodies ++ body_bytes made ∷ [];
     is = more.0;
     either = inr (body_bytes made, refl);
-    good = (grown stands v header start bodies lost restarts.stored.items restarts.front.items order st o k made with_here more.1.fits fits due_here).good;
+    good = (grown represents v header start bodies lost restarts.stored.items restarts.front.items order st o k made with_here more.1.fits fits due_here).good;
   }

@@ -6,8 +6,8 @@ use Rattle.gl_base.specs.declared.memory.NoMemory.{NoMemory as WantOfMemory}
 use Rattle.gl_base.specs.declared.snapshots.Record.{Record}
 use Rattle.engine_runs.specs.append.Appends.{AppendFault, Header, IsInForm, JournalState}
 use Rattle.engine_runs.specs.declared.append.faults.AppendFault.TheVariants.{DiskFault, Full, NoMemory, NotInForm}
-use Rattle.engine_runs.specs.append.Inner.Storing.{IsFaultOfAppend, IsWhyNoFold, IsWhyNotPut, IsWhyNotStored, IsWithRecord, append_fault}
-use Rattle.store.specs.snap_journal.Answers.{IsFullFor, IsWhyNotAdded}
+use Rattle.engine_runs.specs.append.Inner.Storing.{IsFaultOfAppend, FoldErrorCause, PutErrorCause, StoreRecordErrorCause, IsWithRecord, append_fault}
+use Rattle.store.specs.snap_journal.Answers.{IsFullFor, JournalAppendErrorCause}
 use Rattle.store.specs.snap_journal.Formats.{IsBeforeOrAfter, IsBody, RecordFits, body_bytes}
 use Rattle.store.specs.declared.snap_journal.faults.JournalFault.{JournalFault}
 use Rattle.store.specs.declared.snap_journal.faults.JournalFault.TheVariants as fault
@@ -27,27 +27,27 @@ if_form header stored number made (Ok found) is next fits form taken = (
 if_form header stored number made (Err e) is next fits form taken = tt
 
 module _ {D : Type 0} (old new : JournalState D) (before now : ℕ) (made : Record) where
-  pub why_no_fold : (header : Header) (stored : ℕ) → header ≡ old.header → stored ≡ old.count → new ≡ old → (fault : AppendFault) → IsWhyNoFold header stored made fault → IsWhyNotStored old new before now made fault
+  pub why_no_fold : (header : Header) (stored : ℕ) → header ≡ old.header → stored ≡ old.count → new ≡ old → (fault : AppendFault) → FoldErrorCause header stored made fault → StoreRecordErrorCause old new before now made fault
   why_no_fold header stored header_is stored_is same (Full count long) why = absurd why
   why_no_fold header stored header_is stored_is same DiskFault why = absurd why
   why_no_fold header stored header_is stored_is same NotInForm why = (same, λ form. why (form_at old.header header old.count stored made (sym header_is) (sym stored_is) form))
   why_no_fold header stored header_is stored_is same NoMemory why = same
 
-  pub why_not_put : IsInForm old.header old.count made → (fault : AppendFault) → IsWhyNotPut old new before now made fault → IsWhyNotStored old new before now made fault
+  pub why_not_put : IsInForm old.header old.count made → (fault : AppendFault) → PutErrorCause old new before now made fault → StoreRecordErrorCause old new before now made fault
   why_not_put form (Full count long) why = (form, why)
   why_not_put form DiskFault why = why
   why_not_put form NotInForm why = absurd why
   why_not_put form NoMemory why = why
 
-  pub fault_is : (well : old.failed ≡ false) (fault : JournalFault) → IsWhyNotAdded (new ≡ old) old.failed new.failed before now old.count old.length (9 + length (body_bytes made)) fault → IsFaultOfAppend fault
+  pub fault_is : (well : old.failed ≡ false) (fault : JournalFault) → JournalAppendErrorCause (new ≡ old) old.failed new.failed before now old.count old.length (9 + length (body_bytes made)) fault → IsFaultOfAppend fault
   fault_is well (fault.Full stored long) why = tt
   fault_is well fault.DiskFault why = tt
   fault_is well fault.NoMemory why = tt
   fault_is well (fault.BadStore bad) why = absurd why
   fault_is well fault.Failed why = let failed : true ≡ false = sym why.0 ∙ well in absurd (cc)
 
-  pub why_not_added : (well : old.failed ≡ false) (fault : JournalFault) → IsWhyNotAdded (new ≡ old) old.failed new.failed before now old.count old.length (9 + length (body_bytes made)) fault →
-      IsWhyNotPut old new before now made (append_fault fault)
+  pub why_not_added : (well : old.failed ≡ false) (fault : JournalFault) → JournalAppendErrorCause (new ≡ old) old.failed new.failed before now old.count old.length (9 + length (body_bytes made)) fault →
+      PutErrorCause old new before now made (append_fault fault)
   why_not_added well (fault.Full stored long) (was, counts, lasts, full, same) = (counts, lasts, same, full)
   why_not_added well fault.DiskFault (was, is, rose) = (is, rose)
   why_not_added well fault.NoMemory same = same

@@ -10,10 +10,10 @@ use Rattle.call_laws.specs.attempts.Stores.{last_order, snapshots_of}
 use Rattle.call_laws.proofs.call_answers.Listing.{counts_sum, run_is, window_is}
 use Rattle.call_laws.specs.attempts.Entries.{is_restart}
 use Rattle.call_laws.specs.call_answers.Answers.{IsRunWithFailures, KeepsToWindow}
-use Rattle.call_laws.specs.call_answers.Courses.{IsMerge, ListsOfCourse, all_logged, machine_logs}
+use Rattle.call_laws.specs.call_answers.Traces.{IsMerge, ListsOfTrace, all_logged, machine_logs}
 use Rattle.cluster_step.specs.trace.Calls.{HasEndedCall, LeavesNothing, MakesCall}
-use Rattle.cluster_step.specs.trace.Courses.{CallOpening, Cluster, CourseView, IsCourseNow, Machine, Setting, first_cluster, first_setting}
-use Rattle.engine_runs.specs.finish.Ends.{IsEndedRun, IsKnownCourse, NoneReached, orders_behind, records_size, shared_of, stored_order}
+use Rattle.cluster_step.specs.trace.Traces.{CallOpening, Cluster, TraceView, IsTraceNow, Machine, Setting, first_cluster, first_setting}
+use Rattle.engine_runs.specs.finish.Ends.{IsEndedRun, IsKnownTrace, NoneReached, orders_behind, records_size, shared_of, stored_order}
 use Rattle.engine_runs.specs.finish.Gathered.{RunLists, reached_places}
 use Rattle.engine_runs.proofs.Sizes.{orders_many}
 use Rattle.engine_runs.proofs.finish.RoomLemmas.{needs_room, never_full}
@@ -41,12 +41,12 @@ behind_joined : (order : List Entry) (xs ys : List (List ℕ)) → order_behind 
 behind_joined order [] ys = refl
 behind_joined order (x ∷ xs) ys = behind_joined (with_entries order (body_entries x)) xs ys
 
-module _ {M : Type 0} (stands : Setting → ℕ → Machine → M → Type 0) (v : CourseView M) (header : Header) (start bodies : List (List ℕ)) (lost stored front order : List Entry) (st : Setting) (o : CallOpening)
-    (known : IsKnownCourse stands v header start bodies lost stored front order st o) (lists : RunLists) (are : ListsOfCourse st v.failures o.base o.first known.was.events known.was.cluster lists) where
+module _ {M : Type 0} (represents : Setting → ℕ → Machine → M → Type 0) (v : TraceView M) (header : Header) (start bodies : List (List ℕ)) (lost stored front order : List Entry) (st : Setting) (o : CallOpening)
+    (known : IsKnownTrace represents v header start bodies lost stored front order st o) (lists : RunLists) (are : ListsOfTrace st v.failures o.base o.first known.was.events known.was.cluster lists) where
   abbrev c : Cluster
   c = known.was.cluster
 
-  abbrev now : IsCourseNow stands v st o known.was.events c
+  abbrev now : IsTraceNow represents v st o known.was.events c
   now = known.was.now
 
   abbrev fronts : List (List Entry)
@@ -59,9 +59,9 @@ module _ {M : Type 0} (stands : Setting → ℕ → Machine → M → Type 0) (v
   machines_are : length v.now.machines.items ≡ st.machines
   machines_are = now.code.many ∙ ap (λ (s : Setting). s.machines) (behind_since known.was.events (first_setting st o))
 
-  pub ended : IsEndedRun stands v start bodies st o known.was.events c lists
+  pub ended : IsEndedRun represents v start bodies st o known.was.events c lists
   ended =
-      let made = the_call st v.failures o.kept o.resumed o.base o.first known.was.events c now.course in
+      let made = the_call st v.failures o.kept o.resumed o.base o.first known.was.events c now.trace in
       let call : EngineCall = made.0 in
       let of : IsCallOf st v.failures o.kept o.resumed c call = made.1 in
       let is : IsEngineCall (shared_of st v.failures) call = of.is in
@@ -80,7 +80,7 @@ module _ {M : Type 0} (stands : Setting → ℕ → Machine → M → Type 0) (v
       (subst (λ (ks : List Entry). AreNextOrders st ks fronts taken (snapshots_of call)) known.kept made.7) in
       let sum : sum_by (λ count. count) lists.done + c.left ≡ o.first.left =
       ap (λ (n : ℕ). n + c.left) (counts_sum (shared_of st v.failures) call is lists order_is lost_is fired st.machines done made.8) ∙ made.5.spent in
-      let unharmed : NoneReached stands v → call.last.struck ≡ 0 = λ none. made.9 (λ a low. none a (subst (λ (n : ℕ). a < n) (sym machines_are) low) st o known.was.events c now) in
+      let unharmed : NoneReached represents v → call.last.struck ≡ 0 = λ none. made.9 (λ a low. none a (subst (λ (n : ℕ). a < n) (sym machines_are) low) st o known.was.events c now) in
       record {
         call = call;
         makes = makes;

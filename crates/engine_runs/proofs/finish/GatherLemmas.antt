@@ -10,7 +10,7 @@ use Rattle.gl_base.specs.declared.entries.Entry.TheVariants.{Go, Restart}
 use Rattle.gl_base.specs.declared.jobs.FailureAt.{FailureAt}
 use Rattle.call_laws.proofs.attempts.Opening.{call_in_turn, last_begins, opening_begins}
 use Rattle.call_laws.specs.attempts.EngineCalls.{EngineCall, IsEngineCall, call_order, last_beginning, opening}
-use Rattle.cluster_step.specs.trace.Courses.{CallOpening, Cluster, CourseView, IsCourseNow, Machine, Setting, first_setting}
+use Rattle.cluster_step.specs.trace.Traces.{CallOpening, Cluster, TraceView, IsTraceNow, Machine, Setting, first_setting}
 use Rattle.engine_runs.specs.finish.Gathered.{AreNumbers, IsEntryOf, IsMerge, all_logged, machine_logs, reached_places}
 use Rattle.cluster_laws.specs.cluster_model.Events as law
 use Rattle.cluster_laws.specs.cluster_model.Machines.{completed}
@@ -67,7 +67,7 @@ reached_same f g n place (failure ∷ failures) owned same =
 
 -- ---- the order
 
-module _ {M : Type 0} (stands : Setting → ℕ → Machine → M → Type 0) (v : CourseView M) (st : Setting) (o : CallOpening) (events : List law.Event) (c : Cluster) (now : IsCourseNow stands v st o events c) where
+module _ {M : Type 0} (represents : Setting → ℕ → Machine → M → Type 0) (v : TraceView M) (st : Setting) (o : CallOpening) (events : List law.Event) (c : Cluster) (now : IsTraceNow represents v st o events c) where
   -- as many machines as the setting has
   pub machines_are : length v.now.machines.items ≡ st.machines
   machines_are = now.code.many ∙ ap (λ (s : Setting). s.machines) (behind_since events (first_setting st o))
@@ -80,7 +80,7 @@ module _ {M : Type 0} (stands : Setting → ℕ → Machine → M → Type 0) (v
   module _ (front merged order : List Entry) (base : c.base.order ≡ front) (behind : order ≡ front ++ merged) (merges : IsMerge (all_logged (machine_logs st.machines c)) merged) where
     pub order_here : IsOrderHere order
     order_here =
-        let made = the_call st v.failures o.kept o.resumed o.base o.first events c now.course in
+        let made = the_call st v.failures o.kept o.resumed o.base o.first events c now.trace in
         let call : EngineCall = made.0 in
         let of : IsCallOf st v.failures o.kept o.resumed c call = made.1 in
         let is : IsEngineCall (shared_of st v.failures) call = of.is in
@@ -111,7 +111,7 @@ module _ {M : Type 0} (stands : Setting → ℕ → Machine → M → Type 0) (v
   pub fired_here : (counts : List ℕ) → ((a : ℕ) → a < length v.now.machines.items → slice_index_or counts a 0 ≡ completed (c.machine a)) →
       reached_places (λ m. slice_index_or counts m 0) 0 v.failures ≡ reached_places (λ m. completed (c.machine m)) 0 v.failures
   fired_here counts each =
-      reached_same (λ m. slice_index_or counts m 0) (λ m. completed (c.machine m)) st.machines 0 v.failures now.course.opened.ordered.owned (λ m low. each m (subst (λ (n : ℕ). m < n) (sym machines_are) low))
+      reached_same (λ m. slice_index_or counts m 0) (λ m. completed (c.machine m)) st.machines 0 v.failures now.trace.opened.ordered.owned (λ m low. each m (subst (λ (n : ℕ). m < n) (sym machines_are) low))
 
 -- ---- logs, one behind the other
 

@@ -7,9 +7,9 @@ use Rattle.gl_base.specs.declared.numbers.AtomNo.{AtomNo}
 use Rattle.gl_base.specs.declared.numbers.MachineNo.{MachineNo}
 use Rattle.gl_base.specs.declared.scopes.Datum.{Datum}
 use Rattle.cluster_step.proofs.trace.Going.{setting_now}
-use Rattle.cluster_step.specs.trace.Courses.{CallOpening, Cluster, CourseView, IsCourseNow, Machine, Setting, first_setting, newest_setting}
-use Rattle.engine_runs.specs.finish.Gathered.{IsEngineSaverOf, IsTaskIn, OfEach, placed_owner}
-use Rattle.engine_runs.specs.finish.Inner.Cores.{Chromatic, Core, EngineSaver, Locking, core_held}
+use Rattle.cluster_step.specs.trace.Traces.{CallOpening, Cluster, TraceView, IsTraceNow, Machine, Setting, first_setting, newest_setting}
+use Rattle.engine_runs.specs.finish.Gathered.{IsAnyMachineOf, IsTaskIn, OfEach, placed_owner}
+use Rattle.engine_runs.specs.finish.Inner.Cores.{Chromatic, Core, AnyMachine, Locking, core_held}
 use Rattle.cluster_laws.proofs.cluster_core.Nearness.{owner_takes_part, scoped_itself}
 use Rattle.cluster_laws.specs.cluster_core.Parts.{Part}
 use Rattle.cluster_laws.specs.cluster_core.Scopes.{takes_part}
@@ -30,11 +30,11 @@ record HoldsPart (st : Setting) (a : ℕ) (m : Machine) (core : Core) : Type 0 w
   vertices : (v : ℕ) → v < size st.graph → takes_part st v a ≡ true → m.part.datum v ≡ datum_here core.numbers v
 
 -- a machine of either engine has one
-holds_part : {P : Type 0} (meaning : P → Update) (x : EngineSaver P) (st : Setting) (a : ℕ) (m : Machine) → IsEngineSaverOf meaning st a m x → HoldsPart st a m (core_held x)
+holds_part : {P : Type 0} (meaning : P → Update) (x : AnyMachine P) (st : Setting) (a : ℕ) (m : Machine) → IsAnyMachineOf meaning st a m x → HoldsPart st a m (core_held x)
 holds_part meaning (Locking x) st a m is = record { own = is.here.local.own; number = is.number; tasks = λ u. ap (λ (p : Part). p.task u) is.part.rest; vertices = is.part.vertices }
 holds_part meaning (Chromatic x) st a m is = record { own = is.here.part.part.local.own; number = is.number; tasks = λ u. ap (λ (p : Part). p.task u) is.part.rest; vertices = is.part.vertices }
 
-module _ {P : Type 0} (meaning : P → Update) (x : EngineSaver P) (st : Setting) (a : ℕ) (m : Machine) (is : IsEngineSaverOf meaning st a m x) where
+module _ {P : Type 0} (meaning : P → Update) (x : AnyMachine P) (st : Setting) (a : ℕ) (m : Machine) (is : IsAnyMachineOf meaning st a m x) where
   abbrev core : Core
   core = core_held x
 
@@ -64,7 +64,7 @@ placed_at of owner v atom m low below atom_is m_is =
 
 -- ---- in a course
 
-module _ {M : Type 0} (stands : Setting → ℕ → Machine → M → Type 0) (v : CourseView M) (st : Setting) (o : CallOpening) (events : List law.Event) (c : Cluster) (now : IsCourseNow stands v st o events c) where
+module _ {M : Type 0} (represents : Setting → ℕ → Machine → M → Type 0) (v : TraceView M) (st : Setting) (o : CallOpening) (events : List law.Event) (c : Cluster) (now : IsTraceNow represents v st o events c) where
   abbrev last : Setting
   last = newest_setting st o events
 
@@ -83,10 +83,10 @@ module _ {M : Type 0} (stands : Setting → ℕ → Machine → M → Type 0) (v
   )
 
   -- what is so of the machine is so in the course
-  pub of_machine : (holds : Setting → ℕ → Machine → Type 0) (a : ℕ) (x : M) → stands last a (c.machine a) x → OfEach stands x holds → holds last a (c.machine a)
+  pub of_machine : (holds : Setting → ℕ → Machine → Type 0) (a : ℕ) (x : M) → represents last a (c.machine a) x → OfEach represents x holds → holds last a (c.machine a)
   of_machine holds a x is all = all last a (c.machine a) (setting_now st o events now.setting) is
 
-  pub number_in : {P : Type 0} (meaning : P → Update) (a : ℕ) (x : EngineSaver P) → IsEngineSaverOf meaning last a (c.machine a) x → (u : ℕ) → u < size st.graph → st.owner u ≡ a → (datum_here (core_held x).numbers u).value ≡ ((c.machine (st.owner u)).part.datum u).value
+  pub number_in : {P : Type 0} (meaning : P → Update) (a : ℕ) (x : AnyMachine P) → IsAnyMachineOf meaning last a (c.machine a) x → (u : ℕ) → u < size st.graph → st.owner u ≡ a → (datum_here (core_held x).numbers u).value ≡ ((c.machine (st.owner u)).part.datum u).value
   number_in meaning a x is u low owned =
       number_is meaning x last a (c.machine a) is (setting_now st o events now.setting).is u (subst (λ (n : ℕ). u < n) (sym graph_now) low) (owner_now u ∙ owned)
       ∙ ap (λ (k : ℕ). ((c.machine k).part.datum u).value) (sym owned)

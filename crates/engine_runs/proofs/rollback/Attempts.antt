@@ -5,7 +5,7 @@ use Rattle.gl_base.specs.declared.entries.Entry.{Entry}
 use Rattle.gl_base.specs.declared.snapshots.Base.{Base}
 use Rattle.call_laws.specs.attempts.Stores.{last_order}
 use Rattle.cluster_step.proofs.trace.Going.{setting_now}
-use Rattle.cluster_step.specs.trace.Courses.{IsSnapSetting, first_setting}
+use Rattle.cluster_step.specs.trace.Traces.{IsSnapSetting, first_setting}
 use Rattle.cluster_laws.specs.cluster_model.Events as law
 use Rattle.cluster_laws.specs.cluster_model.Leading.{Snapshot}
 use Rattle.cluster_laws.specs.cluster_model.Totals.{total}
@@ -14,15 +14,15 @@ use Rattle.cluster_laws.specs.cluster_runs.Attempts.{Shared}
 use Rattle.cluster_laws.specs.cluster_runs.Recorded.{shared_of}
 use Rattle.graph_core.specs.DataGraph.{DataGraph, IsDataGraph, size}
 use Rattle.placed_machines.proofs.LawLemmas.{attempt_begins}
-use Rattle.placed_machines.specs.declared.savers.Places.{Places}
-use Rattle.placed_machines.specs.Beginning.{AreSaversOf, HaveAdmitted, IsAttemptFrom, IsBaseOf, placed_owner}
+use Rattle.placed_machines.specs.declared.placing.Places.{Places}
+use Rattle.placed_machines.specs.Beginning.{AreAnyMachinesOf, HaveAdmitted, IsAttemptFrom, IsBaseOf, placed_owner}
 use Rattle.placement.proofs.places.OwnerLemmas.{owner_low}
 use Rattle.recovery.proofs.Goodness.{last_behind}
 use Rattle.recovery.specs.GoodStores.{IsGoodBase, IsGoodStore, orders_behind}
 use Rattle.recovery.specs.Recovered.{IsRecovered}
 use Rattle.recovery.specs.Orders.{AreNumbers, replay}
-use Rattle.engine_runs.proofs.saver_courses.BeginLemmas.{go_back, run_now}
-use Rattle.engine_runs.proofs.saver_courses.EngineLemmas.{led_by}
+use Rattle.engine_runs.proofs.attempt_machines.BeginLemmas.{go_back, run_now}
+use Rattle.engine_runs.proofs.attempt_machines.EngineLemmas.{led_by}
 use Rattle.engine_runs.specs.stores.Stores.{first_cluster, fronts_in, recorded_in}
 use Rattle.recovery.specs.records.Keeping.{AreNextOrders}
 use Rattle.update_api.specs.Updates.{Update}
@@ -30,21 +30,21 @@ use Rattle.call_laws.proofs.whole_calls.Calling.{the_return}
 use Rattle.call_laws.proofs.whole_calls.Leading.{behind_since}
 use Rattle.engine_runs.proofs.rollback.Keepings.{machines_same}
 use Rattle.engine_runs.proofs.rollback.Restarted.{AreRestarts, behind_before, lacks_so, one_more_each, order_append, same_numbers}
-use Rattle.engine_runs.specs.rollback.Failing.{CallOpening, Cluster, CourseView, InEachCourse, IsCourseNow, Setting, newest_setting}
-use Rattle.engine_runs.specs.rollback.Returning.{ArePlacesOf, BaseView, EngineSaver, GoesBackSo, HasFailures, Header, IsBaseBehind, IsBaseFor, IsEngineSaverOf, IsKnownCourse, IsRunAt, StartsSaving, StoreView, TakesAway, is_restart, restarts, stored_order}
+use Rattle.engine_runs.specs.rollback.Failing.{CallOpening, Cluster, TraceView, InEachTrace, IsTraceNow, Setting, newest_setting}
+use Rattle.engine_runs.specs.rollback.Returning.{ArePlacesOf, BaseView, AnyMachine, RestartsFrom, HasFailures, Header, IsBaseBehind, IsBaseFor, IsAnyMachineOf, IsKnownTrace, IsRunAt, StartsSaving, StoreView, TakesAway, is_restart, restarts, stored_order}
 
 -- ---- machines for a base begin an attempt of the law, whoever made it
 
-pub starts_so : {P : Type 0} (meaning : P → Update) (g : DataGraph) (program : Update) (places : Places) (many : ℕ) (base : Base) (serials : List ℕ) (machines : List (EngineSaver P)) (next left : ℕ) → IsDataGraph g → ArePlacesOf g many places → IsBaseFor g base →
-    ((st : Setting) (view : BaseView) (before : Cluster) → IsRunAt g program places st → IsBaseOf st base view → HaveAdmitted st serials before → AreSaversOf meaning st view before machines) →
+pub starts_so : {P : Type 0} (meaning : P → Update) (g : DataGraph) (program : Update) (places : Places) (many : ℕ) (base : Base) (serials : List ℕ) (machines : List (AnyMachine P)) (next left : ℕ) → IsDataGraph g → ArePlacesOf g many places → IsBaseFor g base →
+    ((st : Setting) (view : BaseView) (before : Cluster) → IsRunAt g program places st → IsBaseOf st base view → HaveAdmitted st serials before → AreAnyMachinesOf meaning st view before machines) →
     (store : StoreView) → store.vertices ≡ size g → store.edges ≡ length g.edges → store.newest ≡ base.number →
-    (st : Setting) × (to : BaseView) × (before : Cluster) × StartsSaving (IsEngineSaverOf meaning) machines places.run.engine store next left st to before
+    (st : Setting) × (to : BaseView) × (before : Cluster) × StartsSaving (IsAnyMachineOf meaning) machines places.run.engine store next left st to before
 starts_so meaning g program places many base serials machines next left graph placed for stand store vertices edges newest =
     let owner : ℕ → ℕ = placed_owner places.of.items places.owner.items in
     let at : IsAttemptFrom g program owner places.colours.items places.run base serials next left store.store_end =
     attempt_begins g program owner places.colours.items places.run base serials next left store.store_end graph (owner_low g places.run.machines places.of.items places.owner.items placed.each placed.atoms placed.owners)
     placed.colours for in
-    let are : AreSaversOf meaning at.st at.view at.before machines = stand at.st at.view at.before at.runs at.of_base at.admitted in (
+    let are : AreAnyMachinesOf meaning at.st at.view at.before machines = stand at.st at.view at.before at.runs at.of_base at.admitted in (
       at.st,
       at.view,
       at.before,
@@ -63,15 +63,15 @@ starts_so meaning g program places many base serials machines next left graph pl
     )
 
 -- with what is known of the list that was read
-pub stand_so : {P : Type 0} (meaning : P → Update) (g : DataGraph) (program : Update) (places : Places) (base : Base) (machines : List (EngineSaver P)) (read serials : List ℕ) → read ≡ serials →
-    ((st : Setting) (view : BaseView) (before : Cluster) → IsRunAt g program places st → IsBaseOf st base view → HaveAdmitted st read before → AreSaversOf meaning st view before machines) →
-    (st : Setting) (view : BaseView) (before : Cluster) → IsRunAt g program places st → IsBaseOf st base view → HaveAdmitted st serials before → AreSaversOf meaning st view before machines
+pub stand_so : {P : Type 0} (meaning : P → Update) (g : DataGraph) (program : Update) (places : Places) (base : Base) (machines : List (AnyMachine P)) (read serials : List ℕ) → read ≡ serials →
+    ((st : Setting) (view : BaseView) (before : Cluster) → IsRunAt g program places st → IsBaseOf st base view → HaveAdmitted st read before → AreAnyMachinesOf meaning st view before machines) →
+    (st : Setting) (view : BaseView) (before : Cluster) → IsRunAt g program places st → IsBaseOf st base view → HaveAdmitted st serials before → AreAnyMachinesOf meaning st view before machines
 stand_so meaning g program places base machines read serials read_is stand st view before runs of admitted = stand st view before runs of (subst (λ (ss : List ℕ). HaveAdmitted st ss before) (sym read_is) admitted)
 
 -- the serials of the machines that are
-pub admitted_so : {P : Type 0} (meaning : P → Update) (v : CourseView (EngineSaver P)) (serials : List ℕ) →
-    ((a : ℕ) → a < length v.now.machines.items → InEachCourse (IsEngineSaverOf meaning) v (λ st o events c. slice_index_or serials a 0 ≡ (c.machine a).part.serial)) →
-    (st : Setting) (o : CallOpening) (events : List law.Event) (c : Cluster) → IsCourseNow (IsEngineSaverOf meaning) v st o events c → HaveAdmitted (newest_setting st o events) serials c
+pub admitted_so : {P : Type 0} (meaning : P → Update) (v : TraceView (AnyMachine P)) (serials : List ℕ) →
+    ((a : ℕ) → a < length v.now.machines.items → InEachTrace (IsAnyMachineOf meaning) v (λ st o events c. slice_index_or serials a 0 ≡ (c.machine a).part.serial)) →
+    (st : Setting) (o : CallOpening) (events : List law.Event) (c : Cluster) → IsTraceNow (IsAnyMachineOf meaning) v st o events c → HaveAdmitted (newest_setting st o events) serials c
 admitted_so meaning v serials each st o events c is = λ a low.
     let many : length v.now.machines.items ≡ (newest_setting st o events).machines = is.code.many in
     sym (each a (subst (λ (n : ℕ). a < n) (sym many) low) st o events c is)
@@ -98,8 +98,8 @@ base_so shared g program header bodies missing read base recovered good number o
 
 -- ---- where the store is known, the law goes back to its base
 
-module _ {P : Type 0} (meaning : P → Update) (g : DataGraph) (program : Update) (places : Places) (v : CourseView (EngineSaver P)) (header : Header) (start bodies : List (List ℕ)) (lost stored front before : List Entry) (st : Setting) (o : CallOpening)
-    (runs : IsRunAt g program places st) (known : IsKnownCourse (IsEngineSaverOf meaning) v header start bodies lost stored front before st o) (has : HasFailures v st known.was.cluster) where
+module _ {P : Type 0} (meaning : P → Update) (g : DataGraph) (program : Update) (places : Places) (v : TraceView (AnyMachine P)) (header : Header) (start bodies : List (List ℕ)) (lost stored front before : List Entry) (st : Setting) (o : CallOpening)
+    (runs : IsRunAt g program places st) (known : IsKnownTrace (IsAnyMachineOf meaning) v header start bodies lost stored front before st o) (has : HasFailures v st known.was.cluster) where
   abbrev c : Cluster
   c = known.was.cluster
 
@@ -109,7 +109,7 @@ module _ {P : Type 0} (meaning : P → Update) (g : DataGraph) (program : Update
   abbrev now : Setting
   now = newest_setting st o events
 
-  is : IsCourseNow (IsEngineSaverOf meaning) v st o events c
+  is : IsTraceNow (IsAnyMachineOf meaning) v st o events c
   is = known.was.now
 
   abbrev pub shared : Shared
@@ -157,7 +157,7 @@ module _ {P : Type 0} (meaning : P → Update) (g : DataGraph) (program : Update
     next_orders = subst (λ (os : List Entry). AreNextOrders st os fronts taken orders) (sym known.kept) known.was.keeps.orders
 
     back_to : (to : BaseView) × (to.number ≡ c.coordinator.acknowledged) × (to.number ≡ o.base.number + length taken) × (to.order ≡ last_order o.kept orders ++ missing) × HaveSameNumbers st.graph to.numbers (replay st.graph st.program to.order) × law.GoesBackTo now c to
-    back_to = the_return st v.failures o.kept o.resumed o.base o.first events c is.course has.some has.each orders missing next_orders law_lacks
+    back_to = the_return st v.failures o.kept o.resumed o.base o.first events c is.trace has.some has.each orders missing next_orders law_lacks
 
     abbrev to : BaseView
     to = back_to.0
@@ -184,7 +184,7 @@ module _ {P : Type 0} (meaning : P → Update) (g : DataGraph) (program : Update
       run_here : IsRunAt g program places now
       run_here = run_now st o events g program (placed_owner places.of.items places.owner.items) places.colours.items places.run runs
 
-      module _ (machines : List (EngineSaver P)) (stand : (to : BaseView) → IsRunAt g program places now → IsBaseOf now base to → AreSaversOf meaning now to c machines)
+      module _ (machines : List (AnyMachine P)) (stand : (to : BaseView) → IsRunAt g program places now → IsBaseOf now base to → AreAnyMachinesOf meaning now to c machines)
           (store : StoreView) (vertices : store.vertices ≡ size g) (edges : store.edges ≡ length g.edges) (newest : store.newest ≡ base.number) (place : store.store_end ≡ v.now.coordinator.saving.store_end + 16 * failures)
           (ahead later gone : List Entry) (ahead_is : ahead ≡ stored ++ missing) (later_is : later ≡ lost ++ gone) (takes : (to : BaseView) → to.order ≡ base.order.items → law.GoesBackTo now c to → TakesAway now c to gone) where
         stored_now : now.stored ≡ true
@@ -195,7 +195,7 @@ module _ {P : Type 0} (meaning : P → Update) (g : DataGraph) (program : Update
         store_end_is : (law.recovers now to c).coordinator.store_end ≡ store.store_end
         store_end_is = ap₂ (λ (n k : ℕ). n + 16 * k) ((is.code.coordinator.saving stored_now).store_end) (failures_now ∙ sym failures_are) ∙ sym place
 
-        pub goes_so : GoesBackSo meaning v machines places.run.engine store base.order.items lost later front ahead st o events c
+        pub goes_so : RestartsFrom meaning v machines places.run.engine store base.order.items lost later front ahead st o events c
         goes_so = record {
           to = to;
           back = go_back st o events meaning places.run.engine v c to store machines is (led_by places.run.engine places.colours.items st runs.engine) back_to.5 has.running has.each (stand to run_here of_base)

@@ -9,13 +9,13 @@ use Rattle.cluster_laws.specs.cluster_model.Clusters.{with_machine}
 use Rattle.cluster_laws.specs.cluster_model.Events as law
 use Rattle.cluster_laws.specs.cluster_model.Machines.{completed}
 use Rattle.cluster_laws.specs.cluster_model.Working.{fails}
-use Rattle.cluster_step.specs.trace.Events.{CanNotHappenInCall, HappensInCall, StaysThere}
+use Rattle.cluster_step.specs.trace.Events.{IsEventDisabled, HappensInCall, StaysThere}
 use Rattle.cluster_step.specs.declared.clusters.events.Event.TheVariants as event
 use Rattle.cluster_step.specs.declared.clusters.events.Local.TheVariants as local
 use Rattle.call_laws.specs.whole_calls.Following.{reaches}
-use Rattle.engine_runs.specs.rollback.Failing.{ArePassing, CallOpening, Cluster, CourseView, HaveFailedSince, InEachCourse, IsCourseNow, IsSameAttempt, IsSameButFailed, Machine, Setting, has_reached, newest_setting}
+use Rattle.engine_runs.specs.rollback.Failing.{ArePassing, CallOpening, Cluster, TraceView, HaveFailedSince, InEachTrace, IsTraceNow, IsSameAttempt, IsSameButFailed, Machine, Setting, has_reached, newest_setting}
 
-pub same_then : {M : Type 0} (a b c : CourseView M) → IsSameAttempt a b → IsSameAttempt b c → IsSameAttempt a c
+pub same_then : {M : Type 0} (a b c : TraceView M) → IsSameAttempt a b → IsSameAttempt b c → IsSameAttempt a c
 same_then a b c one other = record {
   start = other.start ∙ one.start;
   failures = other.failures ∙ one.failures;
@@ -25,7 +25,7 @@ same_then a b c one other = record {
   stopped = other.stopped ∙ one.stopped;
 }
 
-pub same_itself : {M : Type 0} (a : CourseView M) → IsSameAttempt a a
+pub same_itself : {M : Type 0} (a : TraceView M) → IsSameAttempt a a
 same_itself a = record { start = refl; failures = refl; done = refl; since = refl; many = refl; stopped = refl }
 
 passing_both : (xs ys : List law.Event) → ArePassing xs → ArePassing ys → ArePassing (xs ++ ys)
@@ -51,39 +51,39 @@ fail_passes m = ((λ is. absurd (cc), λ base is. absurd (cc)), tt)
 apart : false ≡ true → ⊥
 apart is = cc
 
-module _ {M : Type 0} (stands : Setting → ℕ → Machine → M → Type 0) where
+module _ {M : Type 0} (represents : Setting → ℕ → Machine → M → Type 0) where
   -- where it has stayed, no machine has failed
-  pub stayed : (old new : CourseView M) (these : ℕ → Type 0) → StaysThere stands old new →
-      InEachCourse stands old (λ st o events c. c.stopped ≡ false → (a : ℕ) → these a → has_reached new.failures c a ≡ true → (c.machine a).failed ≡ true) → InEachCourse stands old (HaveFailedSince stands new these)
+  pub stayed : (old new : TraceView M) (these : ℕ → Type 0) → StaysThere represents old new →
+      InEachTrace represents old (λ st o events c. c.stopped ≡ false → (a : ℕ) → these a → has_reached new.failures c a ≡ true → (c.machine a).failed ≡ true) → InEachTrace represents old (HaveFailedSince represents new these)
   stayed old new these still holds st o events c is = record {
     more = [];
     later = c;
     passing = tt;
-    now = subst (λ (es : List law.Event). IsCourseNow stands new st o es c) (sym (append-nil events)) (still st o events c is);
+    now = subst (λ (es : List law.Event). IsTraceNow represents new st o es c) (sym (append-nil events)) (still st o events c is);
     same = still_same new.failures c;
     failed = holds st o events c is;
   }
 
-  pub untouched : (v : CourseView M) (these : ℕ → Type 0) →
-      InEachCourse stands v (λ st o events c. c.stopped ≡ false → (a : ℕ) → these a → has_reached v.failures c a ≡ true → (c.machine a).failed ≡ true) → InEachCourse stands v (HaveFailedSince stands v these)
+  pub untouched : (v : TraceView M) (these : ℕ → Type 0) →
+      InEachTrace represents v (λ st o events c. c.stopped ≡ false → (a : ℕ) → these a → has_reached v.failures c a ≡ true → (c.machine a).failed ≡ true) → InEachTrace represents v (HaveFailedSince represents v these)
   untouched v these holds = stayed v v these (λ st o events c is. is) holds
 
   -- the machine has not reached the count, or it had failed
-  pub not_reached : (v : CourseView M) (m : ℕ) (reached : Bool) → InEachCourse stands v (λ st o events c. reached ≡ has_reached v.failures c m) → reached ≡ false →
-      InEachCourse stands v (λ st o events c. c.stopped ≡ false → (a : ℕ) → a ≡ m → has_reached v.failures c a ≡ true → (c.machine a).failed ≡ true)
+  pub not_reached : (v : TraceView M) (m : ℕ) (reached : Bool) → InEachTrace represents v (λ st o events c. reached ≡ has_reached v.failures c m) → reached ≡ false →
+      InEachTrace represents v (λ st o events c. c.stopped ≡ false → (a : ℕ) → a ≡ m → has_reached v.failures c a ≡ true → (c.machine a).failed ≡ true)
   not_reached v m reached is off st o events c here running a at on =
       absurd (apart (sym off ∙ is st o events c here ∙ subst (λ (k : ℕ). has_reached v.failures c k ≡ true) at on))
 
-  pub failed_already : (v : CourseView M) (m : ℕ) (failed : Bool) → InEachCourse stands v (λ st o events c. failed ≡ (c.machine m).failed) → failed ≡ true →
-      InEachCourse stands v (λ st o events c. c.stopped ≡ false → (a : ℕ) → a ≡ m → has_reached v.failures c a ≡ true → (c.machine a).failed ≡ true)
+  pub failed_already : (v : TraceView M) (m : ℕ) (failed : Bool) → InEachTrace represents v (λ st o events c. failed ≡ (c.machine m).failed) → failed ≡ true →
+      InEachTrace represents v (λ st o events c. c.stopped ≡ false → (a : ℕ) → a ≡ m → has_reached v.failures c a ≡ true → (c.machine a).failed ≡ true)
   failed_already v m failed is on st o events c here running a at reached = subst (λ (k : ℕ). (c.machine k).failed ≡ true) (sym at) (sym (is st o events c here) ∙ on)
 
   -- the one machine has failed
-  pub failed_one : (old new : CourseView M) (m : MachineNo) → HappensInCall stands old (event.Local (local.Fail m)) new → InEachCourse stands old (HaveFailedSince stands new (λ a. a ≡ m.0))
+  pub failed_one : (old new : TraceView M) (m : MachineNo) → HappensInCall represents old (event.Local (local.Fail m)) new → InEachTrace represents old (HaveFailedSince represents new (λ a. a ≡ m.0))
   failed_one old new m happens st o events c is =
       let has = happens st o events c is in
-      let now : IsCourseNow stands new st o (events ++ law.Fail m.0 ∷ []) (law.after_event (newest_setting st o events) c (law.Fail m.0)) =
-      subst (λ (e : law.Event). IsCourseNow stands new st o (events ++ e ∷ []) (law.after_event (newest_setting st o events) c e)) has.may.is has.now in
+      let now : IsTraceNow represents new st o (events ++ law.Fail m.0 ∷ []) (law.after_event (newest_setting st o events) c (law.Fail m.0)) =
+      subst (λ (e : law.Event). IsTraceNow represents new st o (events ++ e ∷ []) (law.after_event (newest_setting st o events) c e)) has.may.is has.now in
       record {
         more = law.Fail m.0 ∷ [];
         later = with_machine c m.0 (fails (c.machine m.0));
@@ -94,7 +94,7 @@ module _ {M : Type 0} (stands : Setting → ℕ → Machine → M → Type 0) wh
       }
 
   -- fewer machines
-  pub fewer : (new : CourseView M) (these those : ℕ → Type 0) → ((a : ℕ) → those a → these a) → (st : Setting) (o : CallOpening) (events : List law.Event) (c : Cluster) → HaveFailedSince stands new these st o events c → HaveFailedSince stands new those st o events c
+  pub fewer : (new : TraceView M) (these those : ℕ → Type 0) → ((a : ℕ) → those a → these a) → (st : Setting) (o : CallOpening) (events : List law.Event) (c : Cluster) → HaveFailedSince represents new these st o events c → HaveFailedSince represents new those st o events c
   fewer new these those less st o events c has = record {
     more = has.more;
     later = has.later;
@@ -105,15 +105,15 @@ module _ {M : Type 0} (stands : Setting → ℕ → Machine → M → Type 0) wh
   }
 
   -- some fail, and then others
-  module _ (mid new : CourseView M) (one other these : ℕ → Type 0) (same : new.failures ≡ mid.failures) (split : (a : ℕ) → these a → one a ⊎ other a) where
-    pub both_failed : (st : Setting) (o : CallOpening) (events : List law.Event) (c : Cluster) → HaveFailedSince stands mid one st o events c → InEachCourse stands mid (HaveFailedSince stands new other) → HaveFailedSince stands new these st o events c
+  module _ (mid new : TraceView M) (one other these : ℕ → Type 0) (same : new.failures ≡ mid.failures) (split : (a : ℕ) → these a → one a ⊎ other a) where
+    pub both_failed : (st : Setting) (o : CallOpening) (events : List law.Event) (c : Cluster) → HaveFailedSince represents mid one st o events c → InEachTrace represents mid (HaveFailedSince represents new other) → HaveFailedSince represents new these st o events c
     both_failed st o events c first then =
-        let second : HaveFailedSince stands new other st o (events ++ first.more) first.later = then st o (events ++ first.more) first.later first.now in
+        let second : HaveFailedSince represents new other st o (events ++ first.more) first.later = then st o (events ++ first.more) first.later first.now in
         record {
           more = first.more ++ second.more;
           later = second.later;
           passing = passing_both first.more second.more first.passing second.passing;
-          now = subst (λ (es : List law.Event). IsCourseNow stands new st o es second.later) (append_assoc events first.more second.more) second.now;
+          now = subst (λ (es : List law.Event). IsTraceNow represents new st o es second.later) (append_assoc events first.more second.more) second.now;
           same = record {
             base = second.same.base ∙ first.same.base;
             coordinator = second.same.coordinator ∙ first.same.coordinator;
@@ -129,9 +129,9 @@ module _ {M : Type 0} (stands : Setting → ℕ → Machine → M → Type 0) wh
         }
 
   -- the machine could not fail: then it had failed, or had not reached the count
-  module _ (v : CourseView M) (m : MachineNo) (inside : m.0 < length v.now.machines.items) where
-    pub refused_so : CanNotHappenInCall stands v (event.Local (local.Fail m)) → InEachCourse stands v (λ st o events c. (c.machine m.0).failed ≡ false) →
-        InEachCourse stands v (λ st o events c. c.stopped ≡ false → (a : ℕ) → a ≡ m.0 → has_reached v.failures c a ≡ true → (c.machine a).failed ≡ true)
+  module _ (v : TraceView M) (m : MachineNo) (inside : m.0 < length v.now.machines.items) where
+    pub refused_so : IsEventDisabled represents v (event.Local (local.Fail m)) → InEachTrace represents v (λ st o events c. (c.machine m.0).failed ≡ false) →
+        InEachTrace represents v (λ st o events c. c.stopped ≡ false → (a : ℕ) → a ≡ m.0 → has_reached v.failures c a ≡ true → (c.machine a).failed ≡ true)
     refused_so cannot runs st o events c is running a at reached =
         let last : Setting = newest_setting st o events in
         let low : m.0 < last.machines = subst (λ (n : ℕ). m.0 < n) is.code.many inside in

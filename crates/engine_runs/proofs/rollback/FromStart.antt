@@ -6,7 +6,7 @@ use Rattle.cluster_step.proofs.trace.Going.{setting_now}
 use Rattle.engine_runs.proofs.Bounds.{failures_few, restarts_few}
 use Rattle.engine_runs.proofs.rollback.Attempts.{base_so}
 use Rattle.engine_runs.proofs.rollback.Keepings.{machines_same}
-use Rattle.engine_runs.specs.rollback.Returning.{CallOpening, CourseView, EngineSaver, Header, IsBaseBehind, IsEngineSaverOf, IsKnownCourse, Setting}
+use Rattle.engine_runs.specs.rollback.Returning.{CallOpening, TraceView, AnyMachine, Header, IsBaseBehind, IsAnyMachineOf, IsKnownTrace, Setting}
 use Rattle.gl_base.specs.declared.entries.Entry.{Entry}
 use Rattle.gl_base.specs.declared.snapshots.Base.{Base}
 use Rattle.graph_core.specs.DataGraph.{DataGraph}
@@ -29,8 +29,8 @@ near_enough : (place end stored front kept failed failures fired machines many :
     end + 16 * failures < 2 ^ 32
 near_enough place end stored front kept failed failures fired machines many at same few none low are all those small = omega arith
 
-module _ {P : Type 0} (meaning : P → Update) (v : CourseView (EngineSaver P)) (header : Header) (lost stored front order : List Entry) (st : Setting) (o : CallOpening)
-    (known : IsKnownCourse (IsEngineSaverOf meaning) v header [] [] lost stored front order st o) (failures : ℕ) (failures_are : failures ≡ failures_in st known.was.cluster) (failures_low : length v.failures ≤ 65536) (machines_low : length v.now.machines.items < 65535) where
+module _ {P : Type 0} (meaning : P → Update) (v : TraceView (AnyMachine P)) (header : Header) (lost stored front order : List Entry) (st : Setting) (o : CallOpening)
+    (known : IsKnownTrace (IsAnyMachineOf meaning) v header [] [] lost stored front order st o) (failures : ℕ) (failures_are : failures ≡ failures_in st known.was.cluster) (failures_low : length v.failures ≤ 65536) (machines_low : length v.now.machines.items < 65535) where
   pub near : v.now.coordinator.saving.store_end + 16 * failures < 2 ^ 32
   near =
       let is = known.was.now in
@@ -38,5 +38,5 @@ module _ {P : Type 0} (meaning : P → Update) (v : CourseView (EngineSaver P)) 
       near_enough known.was.cluster.coordinator.store_end v.now.coordinator.saving.store_end (length stored) (length front) (length (filter is_restart o.kept)) (failures_in st known.was.cluster) failures (length v.failures) st.machines (length v.now.machines.items)
       known.place (sym ((is.code.coordinator.saving setting.stored).store_end))
       (subst (λ (es : List Entry). length es ≤ length (filter is_restart o.kept) + 1 + length v.failures) (sym (known.front_are ∙ ap (filter is_restart) (sym known.base)))
-      (restarts_few st v.failures o.kept o.resumed o.base o.first known.was.events known.was.cluster is.course))
+      (restarts_few st v.failures o.kept o.resumed o.base o.first known.was.events known.was.cluster is.trace))
       (ap (λ (es : List Entry). length (filter is_restart es)) known.kept) failures_low failures_are (failures_few st known.was.cluster) (is.code.many ∙ machines_same st o known.was.events) machines_low

@@ -2,7 +2,7 @@
 use Rattle.std.proofs.Common.{◌≡◌, ℕ, ◌+◌, ◌*◌, ◌<◌, ◌≤◌, ◌++◌, ◌∙◌, true, false, List, [], ◌∷◌, ap, arith, filter, if◌then◌else◌, length, refl, subst, sym}
 use Rattle.gl_base.specs.declared.entries.Entry.{Entry}
 use Rattle.gl_base.specs.declared.jobs.FailureAt.{FailureAt}
-use Rattle.cluster_step.specs.trace.Courses.{HasGoneBack, first_setting}
+use Rattle.cluster_step.specs.trace.Traces.{HasGoneBack, first_setting}
 use Rattle.coordinator.specs.declared.coord_core.steps.Engine.{Engine}
 use Rattle.cluster_step.proofs.trace.Passing.{pass_fronts, pass_lost, pass_records, recover_fronts, recover_lost, recover_records}
 use Rattle.cluster_laws.specs.cluster_model.Events as law
@@ -14,16 +14,16 @@ use Rattle.engine_runs.specs.stores.Stores.{KeepsUp, first_cluster, fronts_in, r
 use Rattle.update_api.specs.Updates.{Update}
 use Rattle.call_laws.proofs.whole_calls.Leading.{behind_since}
 use Rattle.call_laws.specs.whole_calls.Lost.{AreLostIn}
-use Rattle.engine_runs.specs.rollback.Failing.{CallOpening, Cluster, CourseView, HaveFailedSince, Machine, Setting, has_reached, newest_setting}
-use Rattle.engine_runs.specs.rollback.Returning.{BaseView, EngineSaver, GoesBackSo, HasFailures, HasReachedSome, Header, IsEngineSaverOf, IsKnownCourse, StoreView, is_restart}
+use Rattle.engine_runs.specs.rollback.Failing.{CallOpening, Cluster, TraceView, HaveFailedSince, Machine, Setting, has_reached, newest_setting}
+use Rattle.engine_runs.specs.rollback.Returning.{BaseView, AnyMachine, RestartsFrom, HasFailures, HasReachedSome, Header, IsAnyMachineOf, IsKnownTrace, StoreView, is_restart}
 
 -- a setting has as many machines in each attempt
 pub machines_same : (st : Setting) (o : CallOpening) (events : List law.Event) → (newest_setting st o events).machines ≡ st.machines
 machines_same st o events = ap (λ (s : Setting). s.machines) (behind_since events (first_setting st o))
 
-module _ {M : Type 0} (stands : Setting → ℕ → Machine → M → Type 0) (old new : CourseView M) (failures : new.failures ≡ old.failures) (header : Header) (start bodies : List (List ℕ)) (lost stored front order : List Entry) (st : Setting) (o : CallOpening) where
+module _ {M : Type 0} (represents : Setting → ℕ → Machine → M → Type 0) (old new : TraceView M) (failures : new.failures ≡ old.failures) (header : Header) (start bodies : List (List ℕ)) (lost stored front order : List Entry) (st : Setting) (o : CallOpening) where
   -- where machines fail
-  pub known_on : (these : ℕ → Type 0) (known : IsKnownCourse stands old header start bodies lost stored front order st o) → HaveFailedSince stands new these st o known.was.events known.was.cluster → IsKnownCourse stands new header start bodies lost stored front order st o
+  pub known_on : (these : ℕ → Type 0) (known : IsKnownTrace represents old header start bodies lost stored front order st o) → HaveFailedSince represents new these st o known.was.events known.was.cluster → IsKnownTrace represents new header start bodies lost stored front order st o
   known_on these known fails =
       let events : List law.Event = known.was.events in
       let all : List law.Event = events ++ fails.more in
@@ -47,8 +47,8 @@ module _ {M : Type 0} (stands : Setting → ℕ → Machine → M → Type 0) (o
       }
 
   -- each that has reached a count has failed, and one has
-  module _ (known : IsKnownCourse stands old header start bodies lost stored front order st o) (runs : old.now.stopped ≡ false) (some : HasReachedSome old st known.was.cluster)
-      (fails : HaveFailedSince stands new (λ a. a < length old.now.machines.items) st o known.was.events known.was.cluster) where
+  module _ (known : IsKnownTrace represents old header start bodies lost stored front order st o) (runs : old.now.stopped ≡ false) (some : HasReachedSome old st known.was.cluster)
+      (fails : HaveFailedSince represents new (λ a. a < length old.now.machines.items) st o known.was.events known.was.cluster) where
     running : known.was.cluster.stopped ≡ false
     running = known.was.now.code.stopped ∙ runs
 
@@ -89,17 +89,17 @@ module _ {M : Type 0} (stands : Setting → ℕ → Machine → M → Type 0) (o
         low_zero a = omega arith
 
   -- so there is a course in which all may go back
-  pub known_failed : (known : IsKnownCourse stands old header start bodies lost stored front order st o) → old.now.stopped ≡ false → HasReachedSome old st known.was.cluster →
-      HaveFailedSince stands new (λ a. a < length old.now.machines.items) st o known.was.events known.was.cluster →
-      (after : IsKnownCourse stands new header start bodies lost stored front order st o) × HasFailures new st after.was.cluster
+  pub known_failed : (known : IsKnownTrace represents old header start bodies lost stored front order st o) → old.now.stopped ≡ false → HasReachedSome old st known.was.cluster →
+      HaveFailedSince represents new (λ a. a < length old.now.machines.items) st o known.was.events known.was.cluster →
+      (after : IsKnownTrace represents new header start bodies lost stored front order st o) × HasFailures new st after.was.cluster
   unfolding known_on
   known_failed known runs some fails = (known_on (λ a. a < length old.now.machines.items) known fails, have_failures known runs some fails)
 
 -- where all go back
-module _ {P : Type 0} (meaning : P → Update) (old new : CourseView (EngineSaver P)) (failures : new.failures ≡ old.failures) (header : Header) (start bodies : List (List ℕ)) (lost later stored front ahead before order : List Entry) (st : Setting) (o : CallOpening)
-    (machines : List (EngineSaver P)) (engine : Engine) (store : StoreView) where
-  pub known_back : (known : IsKnownCourse (IsEngineSaverOf meaning) old header start bodies lost stored front before st o) → GoesBackSo meaning old machines engine store order lost later front ahead st o known.was.events known.was.cluster →
-      HasGoneBack (IsEngineSaverOf meaning) old machines engine store new → IsKnownCourse (IsEngineSaverOf meaning) new header start bodies later stored ahead order st o
+module _ {P : Type 0} (meaning : P → Update) (old new : TraceView (AnyMachine P)) (failures : new.failures ≡ old.failures) (header : Header) (start bodies : List (List ℕ)) (lost later stored front ahead before order : List Entry) (st : Setting) (o : CallOpening)
+    (machines : List (AnyMachine P)) (engine : Engine) (store : StoreView) where
+  pub known_back : (known : IsKnownTrace (IsAnyMachineOf meaning) old header start bodies lost stored front before st o) → RestartsFrom meaning old machines engine store order lost later front ahead st o known.was.events known.was.cluster →
+      HasGoneBack (IsAnyMachineOf meaning) old machines engine store new → IsKnownTrace (IsAnyMachineOf meaning) new header start bodies later stored ahead order st o
   known_back known goes gone_back =
       let events : List law.Event = known.was.events in
       let c : Cluster = known.was.cluster in
@@ -111,9 +111,9 @@ module _ {P : Type 0} (meaning : P → Update) (old new : CourseView (EngineSave
           cluster = law.recovers (newest_setting st o events) goes.to c;
           now = gone_back st o events c goes.to goes.back;
           keeps = subst (λ (fs : List FailureAt). KeepsUp st fs header start (fronts_in (first_setting st o) (first_cluster st o) all) (recorded_in (first_setting st o) (first_cluster st o) all) bodies) (sym failures)
-              (subst (λ (fronts : List (List Entry)). KeepsUp st old.failures header start fronts (recorded_in (first_setting st o) (first_cluster st o) all) bodies) (sym (recover_fronts st o events c known.was.now.course.course goes.to))
-              (subst (λ (taken : List Snapshot). KeepsUp st old.failures header start (fronts_in (first_setting st o) (first_cluster st o) events) taken bodies) (sym (recover_records st o events c known.was.now.course.course goes.to)) known.was.keeps));
-          taken = subst (AreLostIn (first_setting st o) (first_cluster st o) all) (sym goes.later_is) (recover_lost st o events c known.was.now.course.course goes.to lost goes.gone known.was.taken goes.takes);
+              (subst (λ (fronts : List (List Entry)). KeepsUp st old.failures header start fronts (recorded_in (first_setting st o) (first_cluster st o) all) bodies) (sym (recover_fronts st o events c known.was.now.trace.trace goes.to))
+              (subst (λ (taken : List Snapshot). KeepsUp st old.failures header start (fronts_in (first_setting st o) (first_cluster st o) events) taken bodies) (sym (recover_records st o events c known.was.now.trace.trace goes.to)) known.was.keeps));
+          taken = subst (AreLostIn (first_setting st o) (first_cluster st o) all) (sym goes.later_is) (recover_lost st o events c known.was.now.trace.trace goes.to lost goes.gone known.was.taken goes.takes);
         };
         fits = known.fits;
         stored_are = known.stored_are;
@@ -128,12 +128,12 @@ module _ {P : Type 0} (meaning : P → Update) (old new : CourseView (EngineSave
       placed end failed stored size front ahead before is = omega (arith, before, is)
 
 -- where the lost updates were read
-pub lost_read : {P : Type 0} (meaning : P → Update) (v : CourseView (EngineSaver P)) (header : Header) (start bodies : List (List ℕ)) (read lost later stored front ahead before order : List Entry) (st : Setting) (o : CallOpening) (machines : List (EngineSaver P)) (engine : Engine) (store : StoreView) →
+pub lost_read : {P : Type 0} (meaning : P → Update) (v : TraceView (AnyMachine P)) (header : Header) (start bodies : List (List ℕ)) (read lost later stored front ahead before order : List Entry) (st : Setting) (o : CallOpening) (machines : List (AnyMachine P)) (engine : Engine) (store : StoreView) →
     read ≡ lost →
-    ((known : IsKnownCourse (IsEngineSaverOf meaning) v header start bodies read stored front before st o) → HasFailures v st known.was.cluster → GoesBackSo meaning v machines engine store order read later front ahead st o known.was.events known.was.cluster) →
-    (known : IsKnownCourse (IsEngineSaverOf meaning) v header start bodies lost stored front before st o) → HasFailures v st known.was.cluster → GoesBackSo meaning v machines engine store order lost later front ahead st o known.was.events known.was.cluster
+    ((known : IsKnownTrace (IsAnyMachineOf meaning) v header start bodies read stored front before st o) → HasFailures v st known.was.cluster → RestartsFrom meaning v machines engine store order read later front ahead st o known.was.events known.was.cluster) →
+    (known : IsKnownTrace (IsAnyMachineOf meaning) v header start bodies lost stored front before st o) → HasFailures v st known.was.cluster → RestartsFrom meaning v machines engine store order lost later front ahead st o known.was.events known.was.cluster
 lost_read meaning v header start bodies read lost later stored front ahead before order st o machines engine store is goes =
     subst
     (λ (es : List Entry).
-    (known : IsKnownCourse (IsEngineSaverOf meaning) v header start bodies es stored front before st o) → HasFailures v st known.was.cluster → GoesBackSo meaning v machines engine store order es later front ahead st o known.was.events known.was.cluster)
+    (known : IsKnownTrace (IsAnyMachineOf meaning) v header start bodies es stored front before st o) → HasFailures v st known.was.cluster → RestartsFrom meaning v machines engine store order es later front ahead st o known.was.events known.was.cluster)
     is goes

@@ -1,16 +1,16 @@
 -- Why all didn't go back.
 use Rattle.std.proofs.Common.{◌≡◌, ℕ, ◌+◌, ◌*◌, ◌≤◌, ◌^◌, ◌∙◌, Bool, false, ap₂, subst, sym}
 use Rattle.cluster_step.proofs.trace.Going.{setting_now}
-use Rattle.cluster_step.specs.trace.Courses.{IsSnapSetting}
+use Rattle.cluster_step.specs.trace.Traces.{IsSnapSetting}
 use Rattle.cluster_laws.specs.cluster_model.Events.{failures_in}
-use Rattle.store.specs.snap_journal.Last.{IsWhyNoLast}
+use Rattle.store.specs.snap_journal.Last.{LastErrorCause}
 use Rattle.store.specs.declared.snap_journal.faults.JournalFault.{JournalFault}
 use Rattle.store.specs.declared.snap_journal.faults.JournalFault.TheVariants as fault
-use Rattle.engine_runs.specs.rollback.Failing.{CourseView, InEachCourse, Machine, Setting, newest_setting}
-use Rattle.engine_runs.specs.rollback.Returning.{IsWhyNotBack}
+use Rattle.engine_runs.specs.rollback.Failing.{TraceView, InEachTrace, Machine, Setting, newest_setting}
+use Rattle.engine_runs.specs.rollback.Returning.{GoBackErrorCause}
 
 -- no last snapshot was read
-pub no_last : (told full : Type 0) (old new : Bool) (before now : ℕ) (why : JournalFault) → IsWhyNoLast told old new before now why → IsWhyNotBack told full old new before now why
+pub no_last : (told full : Type 0) (old new : Bool) (before now : ℕ) (why : JournalFault) → LastErrorCause told old new before now why → GoBackErrorCause told full old new before now why
 no_last told full old new before now fault.DiskFault is = is
 no_last told full old new before now (fault.BadStore reason) is = is
 no_last told full old new before now (fault.Full stored bytes) is = absurd is
@@ -18,15 +18,15 @@ no_last told full old new before now fault.Failed is = is
 no_last told full old new before now fault.NoMemory is = is.1 ∙ sym is.0
 
 -- memory is wanting
-pub no_memory : (told full : Type 0) (old new : Bool) (before now : ℕ) (why : JournalFault) → why ≡ fault.NoMemory → new ≡ old → IsWhyNotBack told full old new before now why
-no_memory told full old new before now why is same = subst (IsWhyNotBack told full old new before now) (sym is) same
+pub no_memory : (told full : Type 0) (old new : Bool) (before now : ℕ) (why : JournalFault) → why ≡ fault.NoMemory → new ≡ old → GoBackErrorCause told full old new before now why
+no_memory told full old new before now why is same = subst (GoBackErrorCause told full old new before now) (sym is) same
 
 -- the store has no place
-pub is_full : (told full : Type 0) (old new : Bool) (before now stored bytes : ℕ) (why : JournalFault) → why ≡ fault.Full stored bytes → full → old ≡ false → new ≡ false → IsWhyNotBack told full old new before now why
-is_full told full old new before now stored bytes why is no_place one other = subst (IsWhyNotBack told full old new before now) (sym is) (no_place, one, other)
+pub is_full : (told full : Type 0) (old new : Bool) (before now stored bytes : ℕ) (why : JournalFault) → why ≡ fault.Full stored bytes → full → old ≡ false → new ≡ false → GoBackErrorCause told full old new before now why
+is_full told full old new before now stored bytes why is no_place one other = subst (GoBackErrorCause told full old new before now) (sym is) (no_place, one, other)
 
-pub no_place : {M : Type 0} (stands : Setting → ℕ → Machine → M → Type 0) (v : CourseView M) (failures : ℕ) → InEachCourse stands v (λ st o events c. failures ≡ failures_in st c) → 2 ^ 32 ≤ v.now.coordinator.saving.store_end + 16 * failures →
-    InEachCourse stands v (λ st o events c. 2 ^ 32 ≤ c.coordinator.store_end + 16 * failures_in st c)
-no_place stands v failures are over st o events c is =
+pub no_place : {M : Type 0} (represents : Setting → ℕ → Machine → M → Type 0) (v : TraceView M) (failures : ℕ) → InEachTrace represents v (λ st o events c. failures ≡ failures_in st c) → 2 ^ 32 ≤ v.now.coordinator.saving.store_end + 16 * failures →
+    InEachTrace represents v (λ st o events c. 2 ^ 32 ≤ c.coordinator.store_end + 16 * failures_in st c)
+no_place represents v failures are over st o events c is =
     let setting : IsSnapSetting (newest_setting st o events) = setting_now st o events is.setting in
     subst (λ (n : ℕ). 2 ^ 32 ≤ n) (ap₂ (λ (n k : ℕ). n + 16 * k) (sym (is.code.coordinator.saving setting.stored).store_end) (are st o events c is)) over

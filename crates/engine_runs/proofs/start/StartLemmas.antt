@@ -4,10 +4,10 @@ use Rattle.std.specs.declared.alloc.Global.{Global}
 use Rattle.std.specs.declared.vec.Vec.{Vec}
 use Rattle.std.proofs.lemmas.List.Elements.{filter-append}
 use Rattle.call_laws.specs.attempts.Entries.{is_restart}
-use Rattle.cluster_step.specs.trace.Courses.{CallOpening, CourseView, first_cluster}
+use Rattle.cluster_step.specs.trace.Traces.{CallOpening, TraceView, first_cluster}
 use Rattle.engine_runs.proofs.start.TicketLemmas.{tickets_low}
 use Rattle.engine_runs.specs.start.Inner.Openings.{CanOpenWith, IsOpeningOf, OpensWith, base_with}
-use Rattle.engine_runs.specs.start.Starting.{AreJobFailures, ArePlacesOf, Base, EngineSaver, HasStarted, IsEngineSaverOf, IsGoodStore, IsHeaderOf, IsKnownCourse, IsRunAt, Setting, opening_from, placed_owner, restart_room, run_shared, shared_of}
+use Rattle.engine_runs.specs.start.Starting.{AreJobFailures, ArePlacesOf, Base, AnyMachine, HasStarted, IsAnyMachineOf, IsGoodStore, IsHeaderOf, IsKnownTrace, IsRunAt, Setting, opening_from, placed_owner, restart_room, run_shared, shared_of}
 use Rattle.engine_runs.specs.declared.start.openings.Opening.{Opening}
 use Rattle.cluster_laws.specs.cluster_model.Totals.{total}
 use Rattle.gl_base.specs.declared.entries.Entry.{Entry}
@@ -17,14 +17,14 @@ use Rattle.graph_core.specs.DataGraph.{DataGraph, IsDataGraph, size}
 use Rattle.placement.proofs.places.OwnerLemmas.{owner_low}
 use Rattle.recovery.specs.opened_store.Opening.{IsGoodBase, ticket_above}
 use Rattle.placed_machines.proofs.RunLemmas.{engine_of, runs_by}
-use Rattle.placed_machines.specs.declared.savers.Places.{Places}
+use Rattle.placed_machines.specs.declared.placing.Places.{Places}
 use Rattle.recovery.specs.Journals.{records_size, stored_in, stored_order}
 use Rattle.recovery.specs.Recovered.{IsRecovered}
-use Rattle.engine_runs.proofs.saver_courses.EngineLemmas.{coloured_by}
+use Rattle.engine_runs.proofs.attempt_machines.EngineLemmas.{coloured_by}
 use Rattle.seq_run.specs.Orders.{replay}
 use Rattle.seq_run.specs.Runs.{AreNumbers}
 use Rattle.store.specs.declared.store_format.header.Header.{Header}
-use Rattle.engine_runs.specs.stores.Stores.{IsStoredCourse}
+use Rattle.engine_runs.specs.stores.Stores.{IsStoredTrace}
 use Rattle.update_api.specs.Updates.{Update}
 use Rattle.snapshot_machines.proofs.wave_counts.CountLemmas.{total_from-nothing}
 
@@ -113,7 +113,7 @@ some_setting g program places machines failures graph are =
       refl,
     )
 
-module _ {P : Type 0} (meaning : P → Update) (g : DataGraph) (program : Update) (header : Header) (bodies : List (List ℕ)) (base : Base) (resumed : Bool) (opening : Opening) (course : CourseView (EngineSaver P)) (places : Places) (failures : List FailureAt) (budget machines : ℕ)
+module _ {P : Type 0} (meaning : P → Update) (g : DataGraph) (program : Update) (header : Header) (bodies : List (List ℕ)) (base : Base) (resumed : Bool) (opening : Opening) (trace : TraceView (AnyMachine P)) (places : Places) (failures : List FailureAt) (budget machines : ℕ)
     (recovered : IsRecovered g program header bodies base) (low : ticket_above base.order.items ≤ 144115188075855872) (op : IsOpeningOf resumed base opening) where
   abbrev kept : Base
   kept = base_with base.order opening.base
@@ -149,12 +149,12 @@ module _ {P : Type 0} (meaning : P → Update) (g : DataGraph) (program : Update
       few = few_tickets opening.next (ticket_above base.order.items) budget next_is low most;
     }
 
-    module _ (opens : OpensWith meaning course st resumed kept budget) (failures_are : course.failures ≡ failures) (of : IsHeaderOf g header) (header_machines : header.machines ≡ machines) where
+    module _ (opens : OpensWith meaning trace st resumed kept budget) (failures_are : trace.failures ≡ failures) (of : IsHeaderOf g header) (header_machines : header.machines ≡ machines) where
       abbrev o : CallOpening
       o = opening_from st resumed kept budget
 
-      stored_course : IsStoredCourse (IsEngineSaverOf meaning) course header bodies bodies [] st o
-      stored_course = record {
+      stored_trace : IsStoredTrace (IsAnyMachineOf meaning) trace header bodies bodies [] st o
+      stored_trace = record {
         events = [];
         cluster = first_cluster st o;
         now = opens.now;
@@ -176,11 +176,11 @@ module _ {P : Type 0} (meaning : P → Update) (g : DataGraph) (program : Update
           (ap (λ (es : List Entry). 16 * length es) (op.front ∙ ap (filter is_restart) op.opened.order) ∙ restarts_long resumed base.order.items opening.next
           ∙ ap (λ (es : List Entry). 16 * length es + restart_room resumed) (sym op.stored))
 
-      known_is : IsKnownCourse (IsEngineSaverOf meaning) course header bodies bodies [] opening.restarts.stored.items opening.restarts.front.items opening.base.order.items st o
-      unfolding stored_course
+      known_is : IsKnownTrace (IsAnyMachineOf meaning) trace header bodies bodies [] opening.restarts.stored.items opening.restarts.front.items opening.base.order.items st o
+      unfolding stored_trace
       known_is = record {
         kept = order_is;
-        was = stored_course;
+        was = stored_trace;
         fits = record { machines = header_machines ∙ sym machines_are; n = of.n ∙ ap size (sym runs.placed.graph); m = of.m ∙ ap (λ (x : DataGraph). length x.edges) (sym runs.placed.graph) };
         stored_are = op.stored ∙ ap (filter is_restart) order_is;
         base = front_order;
@@ -189,7 +189,7 @@ module _ {P : Type 0} (meaning : P → Update) (g : DataGraph) (program : Update
         place = place;
       }
 
-      pub has_started : HasStarted meaning (record { course = course; places = places; order = opening.base.order; restarts = opening.restarts }) header bodies resumed budget st
+      pub has_started : HasStarted meaning (record { trace = trace; places = places; order = opening.base.order; restarts = opening.restarts }) header bodies resumed budget st
       has_started = record {
         opening = o;
         opens = opens.opens;

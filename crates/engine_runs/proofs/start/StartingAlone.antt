@@ -3,12 +3,12 @@ use Rattle.std.proofs.Common.{List, [], ap, append-nil, arith, filter, inl, min,
 use Rattle.call_laws.specs.attempts.Entries.{is_restart}
 use Rattle.engine_runs.proofs.start.StartLemmas.{can_open, has_started}
 use Rattle.engine_runs.specs.start.Inner.Openings.{CanOpenWith, IsOpeningOf, OpensWith, base_with}
-use Rattle.engine_runs.specs.start.Starting.{AreJobFailures, ArePlacesOf, CourseView, EngineSaver, HasStarted, IsHeaderOf, IsRunAt, Setting, shared_of}
+use Rattle.engine_runs.specs.start.Starting.{AreJobFailures, ArePlacesOf, TraceView, AnyMachine, HasStarted, IsHeaderOf, IsRunAt, Setting, shared_of}
 use Rattle.engine_runs.specs.declared.start.openings.Opening.{Opening}
 use Rattle.gl_base.specs.declared.entries.Entry.{Entry}
 use Rattle.gl_base.specs.declared.jobs.FailureAt.{FailureAt}
 use Rattle.graph_core.specs.DataGraph.{DataGraph}
-use Rattle.placed_machines.specs.declared.savers.Places.{Places}
+use Rattle.placed_machines.specs.declared.placing.Places.{Places}
 use Rattle.recovery.proofs.Goodness.{base_good, none_good}
 use Rattle.recovery.specs.GoodStores.{IsGoodBase, IsGoodStore}
 use Rattle.recovery.specs.Recovered.{IsRecovered, IsStartBase}
@@ -39,7 +39,7 @@ opens_itself opening none next stored front = record {
   front = front ∙ ap (filter is_restart) (sym none);
 }
 
-module _ {P : Type 0} (meaning : P → Update) (g : DataGraph) (program : Update) (header : Header) (opening : Opening) (course : CourseView (EngineSaver P)) (places : Places) (failures : List FailureAt) (budget machines : ℕ)
+module _ {P : Type 0} (meaning : P → Update) (g : DataGraph) (program : Update) (header : Header) (opening : Opening) (trace : TraceView (AnyMachine P)) (places : Places) (failures : List FailureAt) (budget machines : ℕ)
     (start : IsStartBase g program opening.base) (next : opening.next ≡ 0) (stored : opening.restarts.stored.items ≡ []) (front : opening.restarts.front.items ≡ [])
     (st : Setting) (runs : IsRunAt g program places st) (ordered : AreJobFailures machines failures) (are : ArePlacesOf g machines places) (most : budget ≤ 16777216) (of : IsHeaderOf g header) where
   recovered : IsRecovered g program header [] opening.base
@@ -51,12 +51,12 @@ module _ {P : Type 0} (meaning : P → Update) (g : DataGraph) (program : Update
   good_base : IsGoodBase (shared_of st failures) opening.base
   good_base = base_good (shared_of st failures) g program header [] opening.base runs.placed.graph runs.program_is of good recovered
 
-  pub starts_alone : (CanOpenWith st failures false (base_with opening.base.order opening.base) opening.next budget → OpensWith meaning course st false (base_with opening.base.order opening.base) budget) → course.failures ≡ failures → header.machines ≡ machines →
-      HasStarted meaning (record { course = course; places = places; order = opening.base.order; restarts = opening.restarts }) header [] false budget st
+  pub starts_alone : (CanOpenWith st failures false (base_with opening.base.order opening.base) opening.next budget → OpensWith meaning trace st false (base_with opening.base.order opening.base) budget) → trace.failures ≡ failures → header.machines ≡ machines →
+      HasStarted meaning (record { trace = trace; places = places; order = opening.base.order; restarts = opening.restarts }) header [] false budget st
   starts_alone opens same header_machines =
-      has_started meaning g program header [] opening.base false opening course places failures budget machines recovered (low_at_first opening.base.order.items start.order)
+      has_started meaning g program header [] opening.base false opening trace places failures budget machines recovered (low_at_first opening.base.order.items start.order)
       (opens_itself opening start.order next stored front) st runs good good_base ordered are most (λ is. refl)
       (opens
-      (can_open meaning g program header [] opening.base false opening course places failures budget machines recovered (low_at_first opening.base.order.items start.order)
+      (can_open meaning g program header [] opening.base false opening trace places failures budget machines recovered (low_at_first opening.base.order.items start.order)
       (opens_itself opening start.order next stored front) st runs good good_base ordered are most (λ is. refl)))
       same of header_machines

@@ -18,11 +18,11 @@ use Rattle.cluster_step.specs.declared.clusters.events.Event.TheVariants as even
 use Rattle.cluster_step.specs.declared.clusters.events.Lead.TheVariants as lead
 use Rattle.cluster_step.specs.declared.clusters.parts.Parts.{Parts}
 use Rattle.std.specs.Prelude.{slice_index_or}
-use Rattle.engine_runs.specs.stores.Stores.{CallOpening, Cluster, CourseGoesOn, CourseView, Header, IsCourseNow, IsGoodStore, IsKnownCourse, IsRecordBehind, IsRememberedAt, IsStoredCourse, KeepsUp, Machine, Setting, as_since, first_cluster, first_setting, fronts_in, recorded_in, stored_order}
-use Rattle.cluster_step.specs.trace.Courses.{Engine, GoesBackWith, HasGoneBack, StoreView, newest_setting}
+use Rattle.engine_runs.specs.stores.Stores.{CallOpening, Cluster, TraceGoesOn, TraceView, Header, IsTraceNow, IsGoodStore, IsKnownTrace, IsRecordBehind, IsRememberedAt, IsStoredTrace, KeepsUp, Machine, Setting, as_since, first_cluster, first_setting, fronts_in, recorded_in, stored_order}
+use Rattle.cluster_step.specs.trace.Traces.{Engine, GoesBackWith, HasGoneBack, StoreView, newest_setting}
 use Rattle.call_laws.specs.whole_calls.Lost.{TakesAway}
-use Rattle.call_laws.specs.whole_calls.Opened.{IsCourseOfCall}
-use Rattle.engine_runs.proofs.stores.Staying.{IsStill, course_behind, still_course}
+use Rattle.call_laws.specs.whole_calls.Opened.{IsTraceOfCall}
+use Rattle.engine_runs.proofs.stores.Staying.{IsStill, trace_behind, still_trace}
 
 -- what the laws of stores say
 abbrev pub OpensUp : Type 0
@@ -31,29 +31,29 @@ OpensUp = (st : Setting) (failures : List FailureAt) (header : Header) (bodies :
 abbrev pub GrowsUp : Type 0
 GrowsUp =
     (st : Setting) (failures : List FailureAt) (kept : List Entry) (resumed : Bool) (base : BaseView) (first : Cluster) (events : List law.Event) (c : Cluster)
-    (header : Header) (start bodies : List (List ℕ)) (made : Record) → IsCourseOfCall st failures kept resumed base first events c → kept ≡ stored_order start →
+    (header : Header) (start bodies : List (List ℕ)) (made : Record) → IsTraceOfCall st failures kept resumed base first events c → kept ≡ stored_order start →
     KeepsUp st failures header start (fronts_in (going_on st base.numbers base.number) (law.recovers st base first) events) (recorded_in (going_on st base.numbers base.number) (law.recovers st base first) events) bodies →
     RecordIsDue st c.coordinator → IsRecordBehind st (stored_order bodies) c.base.order (snapshot_due c.coordinator) made →
     RecordFits made → NumbersFit made → length made.sections.items ≡ header.machines →
     KeepsUp st failures header start (fronts_in (going_on st base.numbers base.number) (law.recovers st base first) events ++ c.base.order ∷ [])
     (recorded_in (going_on st base.numbers base.number) (law.recovers st base first) events ++ snapshot_due c.coordinator ∷ []) (bodies ++ body_bytes made ∷ [])
 
-module _ {M : Type 0} (stands : Setting → ℕ → Machine → M → Type 0) where
-  pub opens : OpensUp → (v : CourseView M) (header : Header) (start : List (List ℕ)) (st : Setting) (o : CallOpening) →
-      IsCourseNow stands v st o [] (first_cluster st o) → IsGoodStore (shared_of st v.failures) header start → IsStoredCourse stands v header start start [] st o
+module _ {M : Type 0} (represents : Setting → ℕ → Machine → M → Type 0) where
+  pub opens : OpensUp → (v : TraceView M) (header : Header) (start : List (List ℕ)) (st : Setting) (o : CallOpening) →
+      IsTraceNow represents v st o [] (first_cluster st o) → IsGoodStore (shared_of st v.failures) header start → IsStoredTrace represents v header start start [] st o
   opens opens_up v header start st o begun good = record { events = []; cluster = first_cluster st o; now = begun; keeps = opens_up st v.failures header start good; taken = refl }
 
-  module _ (old new : CourseView M) (header : Header) (start bodies : List (List ℕ)) (lost : List Entry) (st : Setting) (o : CallOpening)
-      (at : IsRememberedAt old new) (goes : CourseGoesOn stands (as_since new) new) (before : IsStoredCourse stands old header start bodies lost st o) where
-    pub remembered : IsCourseNow stands (as_since new) st o before.events before.cluster
+  module _ (old new : TraceView M) (header : Header) (start bodies : List (List ℕ)) (lost : List Entry) (st : Setting) (o : CallOpening)
+      (at : IsRememberedAt old new) (goes : TraceGoesOn represents (as_since new) new) (before : IsStoredTrace represents old header start bodies lost st o) where
+    pub remembered : IsTraceNow represents (as_since new) st o before.events before.cluster
     remembered = record {
       setting = before.now.setting;
-      course = subst (λ (fs : List FailureAt). IsCourseOfCall st fs o.kept o.resumed o.base o.first before.events before.cluster) (sym at.failures) before.now.course;
-      code = subst (λ (p : Parts M). IsSavingClusterOf stands (newest_setting st o before.events) p before.cluster) (sym at.since) before.now.code;
+      trace = subst (λ (fs : List FailureAt). IsTraceOfCall st fs o.kept o.resumed o.base o.first before.events before.cluster) (sym at.failures) before.now.trace;
+      code = subst (λ (p : Parts M). IsSavingClusterOf represents (newest_setting st o before.events) p before.cluster) (sym at.since) before.now.code;
       done = subst (λ (ds : List ℕ). (a : ℕ) → a < st.machines → (before.cluster.machine a).done ≡ slice_index_or ds a 0) (sym at.done) before.now.done;
     }
 
-    unfoldable pub passes : IsStoredCourse stands new header start bodies lost st o
+    unfoldable pub passes : IsStoredTrace represents new header start bodies lost st o
     passes =
         let later = goes st o before.events before.cluster remembered in
         record {
@@ -71,39 +71,39 @@ module _ {M : Type 0} (stands : Setting → ℕ → Machine → M → Type 0) wh
     unfolding passes
     passed_still =
         let later = goes st o before.events before.cluster remembered in
-        still_course later.0 (newest_setting st o before.events) before.cluster later.1 later.2
-        (course_behind before.events later.0 (first_setting st o) (first_cluster st o) before.cluster later.1 before.now.course.course later.3.course.course)
+        still_trace later.0 (newest_setting st o before.events) before.cluster later.1 later.2
+        (trace_behind before.events later.0 (first_setting st o) (first_cluster st o) before.cluster later.1 before.now.trace.trace later.3.trace.trace)
 
-  module _ (old new : CourseView M) (failures_are : new.failures ≡ old.failures) (header : Header) (start bodies : List (List ℕ)) (lost : List Entry) (st : Setting) (o : CallOpening) where
-    module _ (made : Record) (happens : HappensInCall stands old (event.Lead lead.Record) new) (before : IsStoredCourse stands old header start bodies lost st o) (kept : o.kept ≡ stored_order start)
+  module _ (old new : TraceView M) (failures_are : new.failures ≡ old.failures) (header : Header) (start bodies : List (List ℕ)) (lost : List Entry) (st : Setting) (o : CallOpening) where
+    module _ (made : Record) (happens : HappensInCall represents old (event.Lead lead.Record) new) (before : IsStoredTrace represents old header start bodies lost st o) (kept : o.kept ≡ stored_order start)
         (behind : IsRecordBehind st (stored_order bodies) before.cluster.base.order (snapshot_due before.cluster.coordinator) made) where
       pub may_record : law.MayOccur (newest_setting st o before.events) before.cluster law.Record
       may_record =
           let has = happens st o before.events before.cluster before.now in
           subst (law.MayOccur (newest_setting st o before.events) before.cluster) has.may.is has.may.may
 
-      unfoldable pub grows : GrowsUp → RecordFits made → NumbersFit made → length made.sections.items ≡ header.machines → IsStoredCourse stands new header start (bodies ++ body_bytes made ∷ []) lost st o
+      unfoldable pub grows : GrowsUp → RecordFits made → NumbersFit made → length made.sections.items ≡ header.machines → IsStoredTrace represents new header start (bodies ++ body_bytes made ∷ []) lost st o
       grows grows_up small fits machines =
           let has = happens st o before.events before.cluster before.now in
           let c : Cluster = before.cluster in
-          let due : RecordIsDue st c.coordinator = due_first stands old st o before.events c before.now may_record.1.0 in
+          let due : RecordIsDue st c.coordinator = due_first represents old st o before.events c before.now may_record.1.0 in
           let later : List law.Event = before.events ++ law.Record ∷ [] in
           let more : KeepsUp st old.failures header start (fronts_in (first_setting st o) (first_cluster st o) before.events ++ c.base.order ∷ []) (recorded_in (first_setting st o) (first_cluster st o) before.events ++ snapshot_due c.coordinator ∷ []) (bodies ++ body_bytes made ∷ []) =
-          grows_up st old.failures o.kept o.resumed o.base o.first before.events c header start bodies made before.now.course kept before.keeps due behind small fits machines
+          grows_up st old.failures o.kept o.resumed o.base o.first before.events c header start bodies made before.now.trace kept before.keeps due behind small fits machines
           in
           record {
             events = later;
             cluster = law.after_event (newest_setting st o before.events) c law.Record;
-            now = subst (λ (e : law.Event). IsCourseNow stands new st o (before.events ++ e ∷ []) (law.after_event (newest_setting st o before.events) c e)) has.may.is has.now;
+            now = subst (λ (e : law.Event). IsTraceNow represents new st o (before.events ++ e ∷ []) (law.after_event (newest_setting st o before.events) c e)) has.may.is has.now;
             keeps = subst (λ (fs : List FailureAt). KeepsUp st fs header start (fronts_in (first_setting st o) (first_cluster st o) later) (recorded_in (first_setting st o) (first_cluster st o) later) (bodies ++ body_bytes made ∷ [])) (sym failures_are)
-                (subst (λ (fronts : List (List Entry)). KeepsUp st old.failures header start fronts (recorded_in (first_setting st o) (first_cluster st o) later) (bodies ++ body_bytes made ∷ [])) (sym (record_fronts st o before.events c before.now.course.course))
-                (subst (λ (taken : List Snapshot). KeepsUp st old.failures header start (fronts_in (first_setting st o) (first_cluster st o) before.events ++ c.base.order ∷ []) taken (bodies ++ body_bytes made ∷ [])) (sym (record_records st o before.events c before.now.course.course)) more));
-            taken = record_lost st o before.events c before.now.course.course lost before.taken;
+                (subst (λ (fronts : List (List Entry)). KeepsUp st old.failures header start fronts (recorded_in (first_setting st o) (first_cluster st o) later) (bodies ++ body_bytes made ∷ [])) (sym (record_fronts st o before.events c before.now.trace.trace))
+                (subst (λ (taken : List Snapshot). KeepsUp st old.failures header start (fronts_in (first_setting st o) (first_cluster st o) before.events ++ c.base.order ∷ []) taken (bodies ++ body_bytes made ∷ [])) (sym (record_records st o before.events c before.now.trace.trace)) more));
+            taken = record_lost st o before.events c before.now.trace.trace lost before.taken;
           }
 
-    module _ (gone : List Entry) (machines : List M) (engine : Engine) (store : StoreView) (base : BaseView) (gone_back : HasGoneBack stands old machines engine store new) (before : IsStoredCourse stands old header start bodies lost st o)
-        (goes : GoesBackWith stands old machines engine store st o before.events before.cluster base) (takes : TakesAway (newest_setting st o before.events) before.cluster base gone) where
-      unfoldable pub returns : IsStoredCourse stands new header start bodies (lost ++ gone) st o
+    module _ (gone : List Entry) (machines : List M) (engine : Engine) (store : StoreView) (base : BaseView) (gone_back : HasGoneBack represents old machines engine store new) (before : IsStoredTrace represents old header start bodies lost st o)
+        (goes : GoesBackWith represents old machines engine store st o before.events before.cluster base) (takes : TakesAway (newest_setting st o before.events) before.cluster base gone) where
+      unfoldable pub returns : IsStoredTrace represents new header start bodies (lost ++ gone) st o
       returns =
           let c : Cluster = before.cluster in
           let later : List law.Event = before.events ++ law.Recover base ∷ [] in
@@ -112,14 +112,14 @@ module _ {M : Type 0} (stands : Setting → ℕ → Machine → M → Type 0) wh
             cluster = law.recovers (newest_setting st o before.events) base c;
             now = gone_back st o before.events c base goes;
             keeps = subst (λ (fs : List FailureAt). KeepsUp st fs header start (fronts_in (first_setting st o) (first_cluster st o) later) (recorded_in (first_setting st o) (first_cluster st o) later) bodies) (sym failures_are)
-                (subst (λ (fronts : List (List Entry)). KeepsUp st old.failures header start fronts (recorded_in (first_setting st o) (first_cluster st o) later) bodies) (sym (recover_fronts st o before.events c before.now.course.course base))
-                (subst (λ (taken : List Snapshot). KeepsUp st old.failures header start (fronts_in (first_setting st o) (first_cluster st o) before.events) taken bodies) (sym (recover_records st o before.events c before.now.course.course base)) before.keeps));
-            taken = recover_lost st o before.events c before.now.course.course base lost gone before.taken takes;
+                (subst (λ (fronts : List (List Entry)). KeepsUp st old.failures header start fronts (recorded_in (first_setting st o) (first_cluster st o) later) bodies) (sym (recover_fronts st o before.events c before.now.trace.trace base))
+                (subst (λ (taken : List Snapshot). KeepsUp st old.failures header start (fronts_in (first_setting st o) (first_cluster st o) before.events) taken bodies) (sym (recover_records st o before.events c before.now.trace.trace base)) before.keeps));
+            taken = recover_lost st o before.events c before.now.trace.trace base lost gone before.taken takes;
           }
 
   -- what is known of it
-  pub passes_known : (old new : CourseView M) (header : Header) (start bodies : List (List ℕ)) (lost stored front order : List Entry) (st : Setting) (o : CallOpening) →
-      IsRememberedAt old new → CourseGoesOn stands (as_since new) new → IsKnownCourse stands old header start bodies lost stored front order st o → IsKnownCourse stands new header start bodies lost stored front order st o
+  pub passes_known : (old new : TraceView M) (header : Header) (start bodies : List (List ℕ)) (lost stored front order : List Entry) (st : Setting) (o : CallOpening) →
+      IsRememberedAt old new → TraceGoesOn represents (as_since new) new → IsKnownTrace represents old header start bodies lost stored front order st o → IsKnownTrace represents new header start bodies lost stored front order st o
   passes_known old new header start bodies lost stored front order st o at goes known =
       let still = passed_still old new header start bodies lost st o at goes known.was in
       record {

@@ -1,6 +1,6 @@
 -- What events leave as it is that acknowledge nothing and begin no attempt.
 use Rattle.std.proofs.Common.{◌≡◌, ◌∙◌, ℕ, List, None, Option, Some, [], ◌∷◌, ◌++◌, refl, subst, sym}
-use Rattle.cluster_step.specs.trace.Courses.{ArePassing, Cluster, IsPassing, Setting}
+use Rattle.cluster_step.specs.trace.Traces.{ArePassing, Cluster, IsPassing, Setting}
 use Rattle.cluster_laws.specs.cluster_core.Messages.{Message}
 use Rattle.cluster_laws.specs.cluster_model.Calls.{Call, Count, Report, Saved, Want}
 use Rattle.cluster_laws.specs.cluster_model.Events as law
@@ -77,11 +77,11 @@ still_event st c (law.Stop) is = record { order = refl; acknowledged = refl; sto
 
 -- ---- one after another
 
-pub course_behind : (xs ys : List law.Event) (st : Setting) (a b c : Cluster) → law.IsCourse st a xs b → law.IsCourse st a (xs ++ ys) c → law.IsCourse (setting_behind st xs) b ys c
-course_behind [] ys st a b c one whole = subst (λ (x : Cluster). law.IsCourse st x ys c) (sym one) whole
-course_behind (x ∷ xs) ys st a b c one whole = course_behind xs ys (law.setting_after st x) (law.after_event st a x) b c one.1 whole.1
+pub trace_behind : (xs ys : List law.Event) (st : Setting) (a b c : Cluster) → law.IsTrace st a xs b → law.IsTrace st a (xs ++ ys) c → law.IsTrace (setting_behind st xs) b ys c
+trace_behind [] ys st a b c one whole = subst (λ (x : Cluster). law.IsTrace st x ys c) (sym one) whole
+trace_behind (x ∷ xs) ys st a b c one whole = trace_behind xs ys (law.setting_after st x) (law.after_event st a x) b c one.1 whole.1
 
-pub still_course : (events : List law.Event) (st : Setting) (a c : Cluster) → ArePassing events → law.IsCourse st a events c → IsStill a c
-still_course [] st a c all course = subst (λ (x : Cluster). IsStill a x) (sym course) (itself a)
-still_course (event ∷ events) st a c all course =
-    joined a (law.after_event st a event) c (still_event st a event all.0) (still_course events (law.setting_after st event) (law.after_event st a event) c all.1 course.1)
+pub still_trace : (events : List law.Event) (st : Setting) (a c : Cluster) → ArePassing events → law.IsTrace st a events c → IsStill a c
+still_trace [] st a c all trace = subst (λ (x : Cluster). IsStill a x) (sym trace) (itself a)
+still_trace (event ∷ events) st a c all trace =
+    joined a (law.after_event st a event) c (still_event st a event all.0) (still_trace events (law.setting_after st event) (law.after_event st a event) c all.1 trace.1)

@@ -7,9 +7,9 @@ use Rattle.call_laws.proofs.attempts.Opening.{last_begins, opening_begins}
 use Rattle.call_laws.proofs.whole_calls.Calling.{the_call}
 use Rattle.call_laws.specs.attempts.Entries.{is_restart, is_update}
 use Rattle.call_laws.specs.attempts.EngineCalls.{EngineCall, IsEngineCall, last_beginning, opening}
-use Rattle.call_laws.specs.call_answers.Courses.{IsMerge, ListsOfCourse, all_logged, machine_logs}
+use Rattle.call_laws.specs.call_answers.Traces.{IsMerge, ListsOfTrace, all_logged, machine_logs}
 use Rattle.call_laws.specs.whole_calls.Called.{IsCallOf}
-use Rattle.call_laws.specs.whole_calls.Opened.{IsCourseOfCall}
+use Rattle.call_laws.specs.whole_calls.Opened.{IsTraceOfCall}
 use Rattle.cluster_laws.proofs.merged_logs.PartLemmas.{logs_merge, updates_rise}
 use Rattle.cluster_laws.specs.cluster_cuts.Goings.{AreUpdatesFrom}
 use Rattle.cluster_laws.specs.cluster_model.Clusters.{BaseView, Cluster}
@@ -53,10 +53,10 @@ restarts_first front made next alone updates =
     sym (ap₂ (λ (xs ys : List Entry). xs ++ ys) again rest)
 
 -- the lists of a course whose newest attempt began with restarts alone
-pub first_in : (st : Setting) (failures : List FailureAt) (kept : List Entry) (base : BaseView) (first : Cluster) (events : List Event) (c : Cluster) (lists : RunLists) (resumed : Bool) → IsCourseOfCall st failures kept resumed base first events c →
-    ListsOfCourse st failures base first events c lists → AreRestartsAlone c.base.order → HasRestartsFirst lists.order
-first_in st failures kept base first events c lists resumed course are alone =
-    let made = the_call st failures kept resumed base first events c course in
+pub first_in : (st : Setting) (failures : List FailureAt) (kept : List Entry) (base : BaseView) (first : Cluster) (events : List Event) (c : Cluster) (lists : RunLists) (resumed : Bool) → IsTraceOfCall st failures kept resumed base first events c →
+    ListsOfTrace st failures base first events c lists → AreRestartsAlone c.base.order → HasRestartsFirst lists.order
+first_in st failures kept base first events c lists resumed trace are alone =
+    let made = the_call st failures kept resumed base first events c trace in
     let call : EngineCall = made.0 in
     let of : IsCallOf st failures kept resumed c call = made.1 in
     let is : IsEngineCall (shared_of st failures) call = of.is in

@@ -6,26 +6,26 @@ use Rattle.engine_runs.proofs.Begun.{from_started}
 use Rattle.engine_runs.proofs.Playing.{same_first, same_on}
 use Rattle.cluster_step.specs.declared.drive.unsaved.UnsavedPause.TheVariants as unsaved
 use Rattle.engine_runs.specs.declared.start.starting.Started.{Started}
-use Rattle.engine_runs.specs.rollback.Returning.{HasReachedSome, IsKnownCourse}
+use Rattle.engine_runs.specs.rollback.Returning.{HasReachedSome, IsKnownTrace}
 use Rattle.engine_runs.specs.start.Starting.{HasStarted}
-use Rattle.engine_runs.specs.unstored.Inner.Going.{ArePlacesOf, AreRestartsAlone, CallOpening, CanGoOnUnstored, GoesOnUnstored, HasBegunUnstored, Header, IsEngineSaverOf, IsHeaderOf, IsKnownAt, IsRunAt, IsSameCall, PausesUnsaved, Setting, StoredCall}
+use Rattle.engine_runs.specs.unstored.Inner.Going.{ArePlacesOf, AreRestartsAlone, CallOpening, CanGoOnUnstored, GoesOnUnstored, HasBegunUnstored, Header, IsAnyMachineOf, IsHeaderOf, IsKnownAt, IsRunAt, IsSameCall, PausesUnsaved, Setting, StoredCall}
 use Rattle.gl_base.specs.declared.entries.Entry.{Entry}
 use Rattle.gl_base.specs.declared.jobs.FailureAt.{FailureAt}
 use Rattle.gl_base.specs.declared.numbers.MachineNo.{MachineNo}
 use Rattle.graph_core.specs.DataGraph.{DataGraph, size}
-use Rattle.placed_machines.specs.declared.savers.Places.{Places}
+use Rattle.placed_machines.specs.declared.placing.Places.{Places}
 use Rattle.update_api.specs.Updates.{Update}
 
 -- ---- as it begins
 
-pub has_begun : {P : Type 0} (meaning : P → Update) (started : Started P) (call : StoredCall P) (header : Header) (budget : ℕ) (st : Setting) → call.course ≡ started.course → call.restarts ≡ started.restarts → call.order ≡ started.order →
+pub has_begun : {P : Type 0} (meaning : P → Update) (started : Started P) (call : StoredCall P) (header : Header) (budget : ℕ) (st : Setting) → call.trace ≡ started.trace → call.restarts ≡ started.restarts → call.order ≡ started.order →
     call.lost.items ≡ [] → HasStarted meaning started header [] false budget st → HasBegunUnstored meaning call header budget st
-has_begun meaning started call header budget st course restarts order lost has = record {
+has_begun meaning started call header budget st trace restarts order lost has = record {
   opening = has.opening;
   resumed_is = has.resumed_is;
   tickets = has.tickets;
-  known = subst (λ (ls : List Entry). IsKnownCourse (IsEngineSaverOf meaning) call.course header [] [] ls call.restarts.stored.items call.restarts.front.items call.order.items st has.opening) (sym lost)
-      (from_started meaning started call header [] st has.opening course restarts order has.known);
+  known = subst (λ (ls : List Entry). IsKnownTrace (IsAnyMachineOf meaning) call.trace header [] [] ls call.restarts.stored.items call.restarts.front.items call.order.items st has.opening) (sym lost)
+      (from_started meaning started call header [] st has.opening trace restarts order has.known);
 }
 
 -- ---- as it goes on
@@ -42,8 +42,8 @@ module _ {P : Type 0} (meaning : P → Update) (g : DataGraph) (program : Update
   }
 
   -- to its next pause
-  pub goes_to : (call mid : StoredCall P) → mid ≡ record call { course = mid.course } → IsSameCall call mid →
-      ((header : Header) (start bodies : List (List ℕ)) (st : Setting) (o : CallOpening) → IsKnownAt meaning call.course call header start bodies st o → IsKnownAt meaning mid.course mid header start bodies st o) →
+  pub goes_to : (call mid : StoredCall P) → mid ≡ record call { trace = mid.trace } → IsSameCall call mid →
+      ((header : Header) (start bodies : List (List ℕ)) (st : Setting) (o : CallOpening) → IsKnownAt meaning call.trace call header start bodies st o → IsKnownAt meaning mid.trace mid header start bodies st o) →
       CanGoOnUnstored g call → GoesOnUnstored meaning g program call mid
   goes_to call mid same attempt known can = record {
     can = record {
@@ -61,11 +61,11 @@ module _ {P : Type 0} (meaning : P → Update) (g : DataGraph) (program : Update
   }
 
   -- back to the start
-  pub goes_back : (call later : StoredCall P) → IsSameCall call later → later.snapshots ≡ call.snapshots → later.restarts.stored ≡ call.restarts.stored → later.course.now.stopped ≡ false → AreRestartsAlone later.order.items →
-      (m : MachineNo) → PausesUnsaved (IsEngineSaverOf meaning) call.course (unsaved.Reached m) →
+  pub goes_back : (call later : StoredCall P) → IsSameCall call later → later.snapshots ≡ call.snapshots → later.restarts.stored ≡ call.restarts.stored → later.trace.now.stopped ≡ false → AreRestartsAlone later.order.items →
+      (m : MachineNo) → PausesUnsaved (IsAnyMachineOf meaning) call.trace (unsaved.Reached m) →
       ((header : Header) (order : List Entry) (st : Setting) (o : CallOpening) → IsHeaderOf g header → IsRunAt g program call.places st →
-      (known : IsKnownCourse (IsEngineSaverOf meaning) call.course header [] [] call.lost.items call.restarts.stored.items call.restarts.front.items order st o) → HasReachedSome call.course st known.was.cluster →
-      IsKnownAt meaning later.course later header [] [] st o) →
+      (known : IsKnownTrace (IsAnyMachineOf meaning) call.trace header [] [] call.lost.items call.restarts.stored.items call.restarts.front.items order st o) → HasReachedSome call.trace st known.was.cluster →
+      IsKnownAt meaning later.trace later header [] [] st o) →
       CanGoOnUnstored g call → GoesOnUnstored meaning g program call later
   goes_back call later attempt snapshots stored running alone m reached back can = record {
     can = record {
@@ -81,5 +81,5 @@ module _ {P : Type 0} (meaning : P → Update) (g : DataGraph) (program : Update
     same = attempt;
     known = λ header st o runs at.
         back header call.order.items st o (record { n = at.fits.n ∙ ap size runs.placed.graph; m = at.fits.m ∙ ap (λ (x : DataGraph). length x.edges) runs.placed.graph }) runs at
-        (some_reached meaning call.course header [] [] call.lost.items call.restarts.stored.items call.restarts.front.items call.order.items st o at m reached);
+        (some_reached meaning call.trace header [] [] call.lost.items call.restarts.stored.items call.restarts.front.items call.order.items st o at m reached);
   }

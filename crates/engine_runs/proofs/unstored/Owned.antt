@@ -8,23 +8,23 @@ use Rattle.call_laws.specs.call_answers.Ends.{SpendsRun}
 use Rattle.cluster_step.proofs.trace.Calling.{makes_call}
 use Rattle.engine_runs.proofs.Owners.{HasOwner, run_named, with_owner}
 use Rattle.engine_runs.proofs.unstored.Again.{first_in}
-use Rattle.engine_runs.specs.Calls.{AreSnapLines, Cluster, CourseView, EngineSaver, PauseGives}
-use Rattle.engine_runs.specs.Runs.{ArePlacedFor, BoundsSteps, HasCourseOf, IsEndAt, IsPlacement, IsRunBy, IsRunSo, IsStoredRun, RunLists, Shared, lists_of, owned_shared}
-use Rattle.engine_runs.specs.answers.Ends.{RunEndsSo}
+use Rattle.engine_runs.specs.Calls.{AreSnapLines, Cluster, TraceView, AnyMachine, PauseGives}
+use Rattle.engine_runs.specs.Runs.{ArePlacedFor, BoundsSteps, HasTraceOf, IsEndAt, IsPlacement, IsRunBy, IsRunSo, IsStoredRun, RunLists, Shared, lists_of, owned_shared}
+use Rattle.engine_runs.specs.answers.Ends.{RunEndMeaning}
 use Rattle.engine_runs.specs.answers.Unstored.{EndsUnstored, HasRestartsFirst, IsUnstoredRun}
 use Rattle.engine_runs.specs.declared.answers.runs.SnapLine.{SnapLine}
 use Rattle.engine_runs.specs.declared.answers.runs.StoredEnd.{StoredEnd}
 use Rattle.engine_runs.specs.declared.answers.runs.StoredEnd.TheVariants as end
 use Rattle.engine_runs.specs.declared.answers.runs.StoredPlan.{StoredPlan}
 use Rattle.engine_runs.specs.declared.answers.runs.StoredRun.{StoredRun}
-use Rattle.engine_runs.specs.unstored.Inner.Going.{AreRestartsAlone, CallOpening, EndsCallUnstored, GivesUnstored, GoesOnUnstored, HasBegunUnstored, Header, IsEngineSaverOf, IsHeaderOf, IsKnownAt, IsRunAt, Setting, StoredCall}
+use Rattle.engine_runs.specs.unstored.Inner.Going.{AreRestartsAlone, CallOpening, EndsCallUnstored, GivesUnstored, GoesOnUnstored, HasBegunUnstored, Header, IsAnyMachineOf, IsHeaderOf, IsKnownAt, IsRunAt, Setting, StoredCall}
 use Rattle.gl_base.specs.declared.jobs.FailureAt.{FailureAt}
 use Rattle.gl_base.specs.declared.numbers.Vertex.{Vertex}
 use Rattle.graph_atoms.specs.declared.atom_gather.cuts.Cut.{Cut}
 use Rattle.graph_core.specs.DataGraph.{DataGraph, IsDataGraph, size}
 use Rattle.cluster_laws.specs.cluster_runs.Recorded.{shared_of}
 use Rattle.placed_machines.specs.Beginning.{placed_owner}
-use Rattle.placed_machines.specs.declared.savers.Places.{Places}
+use Rattle.placed_machines.specs.declared.placing.Places.{Places}
 use Rattle.store.specs.declared.snap_journal.faults.JournalFault.{JournalFault}
 use Rattle.store.specs.declared.snap_journal.faults.JournalFault.TheVariants as fault
 use Rattle.store.specs.declared.store_format.faults.StoreFault.{StoreFault}
@@ -39,14 +39,14 @@ IsOwnEnd (end.Spent left) = ⊤
 IsOwnEnd (end.Full stored bytes) = ⊥
 IsOwnEnd end.DiskFault = ⊥
 
-own_end : {P : Type 0} (meaning : P → Update) (v : CourseView (EngineSaver P)) (st : Setting) (c : Cluster) (how : StoredEnd) → GivesUnstored meaning v st c how → IsOwnEnd how
+own_end : {P : Type 0} (meaning : P → Update) (v : TraceView (AnyMachine P)) (st : Setting) (c : Cluster) (how : StoredEnd) → GivesUnstored meaning v st c how → IsOwnEnd how
 own_end meaning v st c end.Finished gives = tt
 own_end meaning v st c (end.Spent left) gives = tt
 own_end meaning v st c (end.Full stored bytes) gives = gives
 own_end meaning v st c end.DiskFault gives = gives
 
 -- as the pause of a call whose end is not saved gives it
-gives_so : {P : Type 0} (meaning : P → Update) (v : CourseView (EngineSaver P)) (st : Setting) (o : CallOpening) (c : Cluster) (how : StoredEnd) → GivesUnstored meaning v st c how → PauseGives false meaning v [] st o c how
+gives_so : {P : Type 0} (meaning : P → Update) (v : TraceView (AnyMachine P)) (st : Setting) (o : CallOpening) (c : Cluster) (how : StoredEnd) → GivesUnstored meaning v st c how → PauseGives false meaning v [] st o c how
 gives_so meaning v st o c end.Finished gives = inr (refl, gives)
 gives_so meaning v st o c (end.Spent left) gives = gives
 gives_so meaning v st o c (end.Full stored bytes) gives = absurd gives
@@ -59,7 +59,7 @@ no_lines shared number (line ∷ lines) are = absurd are
 -- a run with nothing stored, of which no snapshot was acknowledged
 module _ (shared : Shared) (machines window budget : ℕ) (run : StoredRun) (ran : IsStoredRun false shared machines window budget 0 [] false [] run) (own : IsOwnEnd run.end) where
   abbrev ends_so : StoredEnd → Type 0
-  ends_so = RunEndsSo false shared machines window budget 0 [] [] ran.unanswered (lists_of run)
+  ends_so = RunEndMeaning false shared machines window budget 0 [] [] ran.unanswered (lists_of run)
 
   answered : (how : StoredEnd) → ends_so how → IsOwnEnd how → ran.unanswered ≡ 0
   answered end.Finished ends alone = ends.answered
@@ -89,7 +89,7 @@ module _ {P : Type 0} (meaning : P → Update) (g : DataGraph) (program : Update
     (graph : IsDataGraph g) (placed : ArePlacedFor g cut plan call.places)
     (one : (owner other : ℕ → ℕ) → IsPlacement g cut plan.run.machines owner → IsPlacement g cut plan.run.machines other → (v : ℕ) → v < size g → owner v ≡ other v)
     (begun : (header : Header) (st : Setting) → IsHeaderOf g header → header.machines ≡ plan.run.machines → IsRunAt g program call.places st → HasBegunUnstored meaning call header plan.run.budget st)
-    (began : call.course.failures ≡ failures) (goes : GoesOnUnstored meaning g program call later) (ends : EndsCallUnstored meaning later how) where
+    (began : call.trace.failures ≡ failures) (goes : GoesOnUnstored meaning g program call later) (ends : EndsCallUnstored meaning later how) where
   -- beside a store for these machines and this graph, which nobody has
   abbrev header : Header
   header = record { machines = plan.run.machines; algorithm = 1; directed = 0; source = 0; n = size g; m = length g.edges; digest = record { 0 = [] } }
@@ -97,7 +97,7 @@ module _ {P : Type 0} (meaning : P → Update) (g : DataGraph) (program : Update
   pub has : (owner : ℕ → ℕ) → IsPlacement g cut plan.run.machines owner → HasOwner g program call.places owner failures
   has owner placement = with_owner g program cut plan call.places owner failures graph placed (one owner (placed_owner call.places.of.items call.places.owner.items) placement placed.placement)
 
-  failures_later : later.course.failures ≡ failures
+  failures_later : later.trace.failures ≡ failures
   failures_later = goes.same.failures ∙ began
 
   module _ (owner : ℕ → ℕ) (placement : IsPlacement g cut plan.run.machines owner) where
@@ -113,46 +113,46 @@ module _ {P : Type 0} (meaning : P → Update) (g : DataGraph) (program : Update
     pub there : IsRunAt g program later.places st
     there = subst (λ (p : Places). IsRunAt g program p st) (sym goes.same.places) (has owner placement).runs
 
-    known : IsKnownAt meaning later.course later header [] [] st o
+    known : IsKnownAt meaning later.trace later header [] [] st o
     known = goes.known header st o (has owner placement).runs starts.known
 
-    gives : GivesUnstored meaning later.course st known.was.cluster how
+    gives : GivesUnstored meaning later.trace st known.was.cluster how
     gives = ends header st o known
 
     pub at : IsEndAt meaning later header [] [] st o how
     at = record {
-      lines = subst (AreSnapLines (shared_of st later.course.failures) 1 []) (sym goes.can.snapshots) tt;
-      paused = later.course;
+      lines = subst (AreSnapLines (shared_of st later.trace.failures) 1 []) (sym goes.can.snapshots) tt;
+      paused = later.trace;
       known = known;
       failures = refl;
       now = known.was.now;
-      gives = subst (λ (saves : Bool). PauseGives saves meaning later.course [] st o known.was.cluster how) (sym goes.can.saves) (gives_so meaning later.course st o known.was.cluster how gives);
+      gives = subst (λ (saves : Bool). PauseGives saves meaning later.trace [] st o known.was.cluster how) (sym goes.can.saves) (gives_so meaning later.trace st o known.was.cluster how gives);
     }
 
     -- what it is
     pub run_owned : (run : StoredRun) →
         ((program : Update) (header : Header) (start added : List (List ℕ)) (st : Setting) (o : CallOpening) → IsRunAt g program later.places st → IsEndAt meaning later header start added st o how → IsRunSo later.saves_end st failures o start added run) →
         ((program : Update) (header : Header) (start added : List (List ℕ)) (st : Setting) (o : CallOpening) → IsRunAt g program later.places st → (at : IsEndAt meaning later header start added st o how) →
-        HasCourseOf failures st o at.known.was.events at.known.was.cluster (lists_of run)) →
+        HasTraceOf failures st o at.known.was.events at.known.was.cluster (lists_of run)) →
         run.end ≡ how → IsUnstoredRun (owned_shared g program owner failures) plan.run.machines plan.run.budget run
     unfolding at
-    run_owned run ran course ended_so =
+    run_owned run ran trace ended_so =
         let so : IsRunSo false st failures o [] [] run = subst (λ (saves : Bool). IsRunSo saves st failures o [] [] run) goes.can.saves (ran program header [] [] st o there at) in
         let stored : IsStoredRun false (owned_shared g program owner failures) plan.run.machines plan.window plan.run.budget 0 [] false [] run =
         run_named false st failures o [] [] run (owned_shared g program owner failures) plan.run.machines plan.window plan.run.budget 0 false (has owner placement).shared_is
         ((has owner placement).runs.placed.machines ∙ placed.are.many) ((has owner placement).runs.window ∙ placed.window) starts.tickets refl starts.resumed_is so in
-        let listed = course program header [] [] st o there at in
+        let listed = trace program header [] [] st o there at in
         unstored (owned_shared g program owner failures) plan.run.machines plan.window plan.run.budget run stored
-        (subst IsOwnEnd (sym ended_so) (own_end meaning later.course st known.was.cluster how gives))
+        (subst IsOwnEnd (sym ended_so) (own_end meaning later.trace st known.was.cluster how gives))
         (first_in st failures o.kept o.base o.first known.was.events known.was.cluster (lists_of run) o.resumed listed.0 listed.1 (subst AreRestartsAlone (sym known.base) goes.can.restarts))
 
     -- which machines ran
     pub run_by : (lists : RunLists) →
         ((program : Update) (header : Header) (start added : List (List ℕ)) (st : Setting) (o : CallOpening) → IsRunAt g program later.places st → (at : IsEndAt meaning later header start added st o how) →
-        HasCourseOf failures st o at.known.was.events at.known.was.cluster lists) →
+        HasTraceOf failures st o at.known.was.events at.known.was.cluster lists) →
         IsRunBy g cut program plan failures lists
     unfolding at
-    run_by lists course = record {
+    run_by lists trace = record {
       places = call.places;
       placed = placed;
       setting = st;
@@ -160,19 +160,19 @@ module _ {P : Type 0} (meaning : P → Update) (g : DataGraph) (program : Update
       opening = o;
       events = known.was.events;
       cluster = known.was.cluster;
-      course = course program header [] [] st o there at;
+      trace = trace program header [] [] st o there at;
     }
 
     -- it spends no budget that is enough
     pub never_spent : (bound : ℕ) → BoundsSteps g program bound → (1 + length failures) * bound ≤ plan.run.budget → (left : Vertex) → how ≡ end.Spent left → ⊥
     never_spent bound steps enough left is =
-        let spends : GivesUnstored meaning later.course st known.was.cluster (end.Spent left) = subst (GivesUnstored meaning later.course st known.was.cluster) is gives in
-        let makes = makes_call (IsEngineSaverOf meaning) later.course st o known.was.events known.was.cluster known.was.now in
+        let spends : GivesUnstored meaning later.trace st known.was.cluster (end.Spent left) = subst (GivesUnstored meaning later.trace st known.was.cluster) is gives in
+        let makes = makes_call (IsAnyMachineOf meaning) later.trace st o known.was.events known.was.cluster known.was.now in
         let spent = spends.0.1 st o known.was.events known.was.cluster known.was.now makes.0 makes.1 in
-        let many : length later.course.failures ≡ length failures = ap (length {A = FailureAt}) failures_later in
+        let many : length later.trace.failures ≡ length failures = ap (length {A = FailureAt}) failures_later in
         let bounds : BoundsSteps st.graph st.program bound = subst₂ (λ (k : DataGraph) (p : Update). BoundsSteps k p bound) (sym (has owner placement).runs.placed.graph) (sym (has owner placement).runs.program_is) steps in
-        less (length (made_of makes.0)) o.first.left plan.run.budget ((1 + length failures) * bound) ((1 + length later.course.failures) * bound) spent.0 starts.tickets enough (ap (λ (n : ℕ). (1 + n) * bound) many)
-        (made_fewer (shared_of st later.course.failures) bound bounds makes.0 makes.1.is.is spent.1.0 spent.1.2)
+        less (length (made_of makes.0)) o.first.left plan.run.budget ((1 + length failures) * bound) ((1 + length later.trace.failures) * bound) spent.0 starts.tickets enough (ap (λ (n : ℕ). (1 + n) * bound) many)
+        (made_fewer (shared_of st later.trace.failures) bound bounds makes.0 makes.1.is.is spent.1.0 spent.1.2)
       where
         less : (made left budget bounded other : ℕ) → made ≡ left → left ≡ budget → bounded ≤ budget → other ≡ bounded → made < other → ⊥
         less made left budget bounded other is left_is enough same few = omega arith

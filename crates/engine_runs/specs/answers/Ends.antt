@@ -48,12 +48,12 @@ NeedsMoreRoom shared machines window kept snapshots stored bytes order =
 -- What a run that ended so says by its lists, whose end is saved or not, where its store had so many snapshots, of which the last has this
 -- order, these are the orders of the snapshots that it acknowledged, and so many failures went unanswered. A run that spent its budget is one
 -- whose store is not full of snapshots.
-abbrev pub RunEndsSo : Bool → Shared → ℕ → ℕ → ℕ → ℕ → List Entry → List (List Entry) → ℕ → RunLists → StoredEnd → Type 0
-RunEndsSo saves shared machines window budget had kept snapshots unanswered lists Finished =
+abbrev pub RunEndMeaning : Bool → Shared → ℕ → ℕ → ℕ → ℕ → List Entry → List (List Entry) → ℕ → RunLists → StoredEnd → Type 0
+RunEndMeaning saves shared machines window budget had kept snapshots unanswered lists Finished =
     FinishesRun saves shared kept snapshots unanswered lists
-RunEndsSo saves shared machines window budget had kept snapshots unanswered lists (Spent left) =
+RunEndMeaning saves shared machines window budget had kept snapshots unanswered lists (Spent left) =
     SpendsRun shared budget left.0 unanswered lists
     × (0 < window → IsFullOfSnapshots shared machines window kept snapshots (had + length snapshots) lists.order → ⊥)
-RunEndsSo saves shared machines window budget had kept snapshots unanswered lists (Full stored bytes) =
+RunEndMeaning saves shared machines window budget had kept snapshots unanswered lists (Full stored bytes) =
     (unanswered ≡ 0) × NeedsMoreRoom shared machines window kept snapshots stored bytes lists.order
-RunEndsSo saves shared machines window budget had kept snapshots unanswered lists DiskFault = ⊤
+RunEndMeaning saves shared machines window budget had kept snapshots unanswered lists DiskFault = ⊤

@@ -6,12 +6,12 @@ use Rattle.gl_base.specs.declared.entries.Entry.{Entry}
 use Rattle.call_laws.specs.call_answers.Answers.{Shared}
 use Rattle.gl_outside.specs.Disk.{DiskPast, IsImage, LeavesOnly}
 use Rattle.store.specs.declared.store_format.header.Header.{Header}
-use Rattle.store.specs.store_format.Stores.{StandsFor}
+use Rattle.store.specs.store_format.Stores.{DecodesTo}
 
 -- The image stands for a good store that begins with these snapshots.
 pub record HoldsGood (shared : Shared) (header : Header) (front : List (List ℕ)) (image : List ℕ) : Type 0 where
   pub behind : List (List ℕ)
-  pub stands : StandsFor header (front ++ behind) image
+  pub stands : DecodesTo header (front ++ behind) image
   pub good : IsGoodStore shared header (front ++ behind)
 
 -- The store had these snapshots as the run began, and got others, whose orders are these. Whatever a crash left at any moment of the run is a

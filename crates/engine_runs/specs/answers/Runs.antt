@@ -1,6 +1,6 @@
 -- What a run with a store is.
 pub use Rattle.call_laws.specs.call_answers.Answers.{IsRunWithFailures, KeepsToWindow, RunLists, Shared}
-pub use Rattle.engine_runs.specs.answers.Ends.{RunEndsSo}
+pub use Rattle.engine_runs.specs.answers.Ends.{RunEndMeaning}
 pub use Rattle.engine_runs.specs.answers.Lines.{AreSnapLines}
 pub use Rattle.engine_runs.specs.declared.answers.runs.StoredRun.{StoredRun}
 use Rattle.std.specs.Prelude.{Bool, List, suc, sum_by, ℕ, ◌≤◌}
@@ -23,4 +23,4 @@ pub record IsStoredRun (saves : Bool) (shared : Shared) (machines window budget 
   pub few : sum_by (λ count. count) run.done.items ≤ budget
   pub lines : AreSnapLines shared (suc stored) snapshots run.snapshots.items
   pub numbers_are : AreNumbers (size shared.graph) (replay shared.graph shared.program run.order.items).vertex run.numbers.items
-  pub ends : RunEndsSo saves shared machines window budget stored kept snapshots unanswered (lists_of run) run.end
+  pub ends : RunEndMeaning saves shared machines window budget stored kept snapshots unanswered (lists_of run) run.end

@@ -1,10 +1,10 @@
 -- All machines of a call go back to what the store has.
-pub use Rattle.engine_runs.specs.rollback.Failing.{Cluster, CourseView, InEachCourse, IsCourseNow, IsSameAttempt, Setting, has_reached, newest_setting}
-pub use Rattle.cluster_step.specs.trace.Courses.{BaseView, CallOpening, GoesBackWith, StartsSaving, StoreView}
+pub use Rattle.engine_runs.specs.rollback.Failing.{Cluster, TraceView, InEachTrace, IsTraceNow, IsSameAttempt, Setting, has_reached, newest_setting}
+pub use Rattle.cluster_step.specs.trace.Traces.{BaseView, CallOpening, GoesBackWith, StartsSaving, StoreView}
 pub use Rattle.recovery.specs.restarts.Missing.{Begins, is_restart, restarts}
-pub use Rattle.placed_machines.specs.Beginning.{ArePlacesOf, IsBaseFor, IsEngineSaverOf, IsRunAt}
-pub use Rattle.placed_machines.specs.declared.engine_savers.savers.EngineSaver.{EngineSaver}
-pub use Rattle.engine_runs.specs.stores.Stores.{Header, IsKnownCourse, stored_order}
+pub use Rattle.placed_machines.specs.Beginning.{ArePlacesOf, IsBaseFor, IsAnyMachineOf, IsRunAt}
+pub use Rattle.placed_machines.specs.declared.any_machine.machines.AnyMachine.{AnyMachine}
+pub use Rattle.engine_runs.specs.stores.Stores.{Header, IsKnownTrace, stored_order}
 pub use Rattle.call_laws.specs.whole_calls.Lost.{TakesAway}
 use Rattle.std.specs.Prelude.{Bool, List, false, filter, length, true, ℕ, ◌+◌, ◌++◌, ◌<◌, ◌≡◌}
 use Rattle.gl_base.specs.declared.entries.Entry.{Entry}
@@ -19,11 +19,11 @@ use Rattle.store.specs.declared.snap_journal.faults.JournalFault.TheVariants.{Ba
 use Rattle.update_api.specs.Updates.{Update}
 
 -- a machine has reached the count of a failure
-abbrev pub HasReachedSome : {M : Type 0} → CourseView M → Setting → Cluster → Type 0
+abbrev pub HasReachedSome : {M : Type 0} → TraceView M → Setting → Cluster → Type 0
 HasReachedSome v st c = (a : ℕ) × (a < st.machines) × (has_reached v.failures c a ≡ true)
 
 -- Machines have failed, and each that reached the count of a failure has.
-pub record HasFailures {M : Type 0} (v : CourseView M) (st : Setting) (c : Cluster) : Type 0 where
+pub record HasFailures {M : Type 0} (v : TraceView M) (st : Setting) (c : Cluster) : Type 0 where
   pub running : c.stopped ≡ false
   pub some : 0 < law.failures_in st c
   pub each : (a : ℕ) → a < st.machines → has_reached v.failures c a ≡ true → (c.machine a).failed ≡ true
@@ -37,9 +37,9 @@ pub record IsBaseBehind (shared : Shared) (header : Header) (bodies : List (List
 
 -- With these machines, this engine and this store the course may go back to this order. That takes away what is behind the lost updates before, and the next
 -- attempt begins with these restarts, one more than before for each failure.
-pub record GoesBackSo {P : Type 0} (meaning : P → Update) (v : CourseView (EngineSaver P)) (machines : List (EngineSaver P)) (engine : Engine) (store : StoreView) (order lost later before front : List Entry) (st : Setting) (o : CallOpening) (events : List law.Event) (c : Cluster) : Type 0 where
+pub record RestartsFrom {P : Type 0} (meaning : P → Update) (v : TraceView (AnyMachine P)) (machines : List (AnyMachine P)) (engine : Engine) (store : StoreView) (order lost later before front : List Entry) (st : Setting) (o : CallOpening) (events : List law.Event) (c : Cluster) : Type 0 where
   pub to : BaseView
-  pub back : GoesBackWith (IsEngineSaverOf meaning) v machines engine store st o events c to
+  pub back : GoesBackWith (IsAnyMachineOf meaning) v machines engine store st o events c to
   pub number : to.number ≡ c.coordinator.acknowledged
   pub order_is : to.order ≡ order
   pub gone : List Entry
@@ -50,9 +50,9 @@ pub record GoesBackSo {P : Type 0} (meaning : P → Update) (v : CourseView (Eng
 
 -- Why they didn't go back. `old` and `new` tell whether an earlier call had found a fault of the disk, and whether one has now; `full` says
 -- that the store has no place for the restarts. Where a disk tells what it holds, its bytes are a store.
-abbrev pub IsWhyNotBack : Type 0 → Type 0 → Bool → Bool → ℕ → ℕ → JournalFault → Type 0
-IsWhyNotBack told full old new before now DiskFault = (old ≡ false) × (new ≡ true) × Rose before now
-IsWhyNotBack told full old new before now (BadStore fault) = (¬ told) × (old ≡ false) × (new ≡ false)
-IsWhyNotBack told full old new before now (Full stored bytes) = full × (old ≡ false) × (new ≡ false)
-IsWhyNotBack told full old new before now Failed = (old ≡ true) × (new ≡ true)
-IsWhyNotBack told full old new before now NoMemory = new ≡ old
+abbrev pub GoBackErrorCause : Type 0 → Type 0 → Bool → Bool → ℕ → ℕ → JournalFault → Type 0
+GoBackErrorCause told full old new before now DiskFault = (old ≡ false) × (new ≡ true) × Rose before now
+GoBackErrorCause told full old new before now (BadStore fault) = (¬ told) × (old ≡ false) × (new ≡ false)
+GoBackErrorCause told full old new before now (Full stored bytes) = full × (old ≡ false) × (new ≡ false)
+GoBackErrorCause told full old new before now Failed = (old ≡ true) × (new ≡ true)
+GoBackErrorCause told full old new before now NoMemory = new ≡ old

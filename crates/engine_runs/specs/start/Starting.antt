@@ -1,16 +1,16 @@
 -- How a call starts from what the journal of a store has.
-pub use Rattle.cluster_step.specs.trace.Courses.{CallOpening, CourseView, IsCourseNow, OpensCall, Setting, first_cluster}
+pub use Rattle.cluster_step.specs.trace.Traces.{CallOpening, TraceView, IsTraceNow, OpensCall, Setting, first_cluster}
 pub use Rattle.recovery.specs.restarts.Missing.{Begins}
 pub use Rattle.placement.specs.plans.Plans.{CanBeCut, IsInRange}
 pub use Rattle.gl_base.specs.declared.snapshots.Base.{Base}
 pub use Rattle.placement.specs.plans.Plays.{IsPlacement}
-pub use Rattle.placed_machines.specs.Beginning.{AreColoursFor, ArePlacesOf, IsBaseFor, IsEngineSaverOf, IsRunAt, placed_owner}
-pub use Rattle.placed_machines.specs.declared.engine_savers.savers.EngineSaver.{EngineSaver}
+pub use Rattle.placed_machines.specs.Beginning.{AreColoursFor, ArePlacesOf, IsBaseFor, IsAnyMachineOf, IsRunAt, placed_owner}
+pub use Rattle.placed_machines.specs.declared.any_machine.machines.AnyMachine.{AnyMachine}
 pub use Rattle.recovery.specs.GoodStores.{IsGoodStore}
 pub use Rattle.recovery.specs.Recovered.{IsHeaderOf}
-pub use Rattle.engine_runs.specs.saver_courses.Beginning.{opening_from, shared_of}
+pub use Rattle.engine_runs.specs.attempt_machines.Beginning.{opening_from, shared_of}
 pub use Rattle.store.specs.snap_journal.Journals.{JournalState, snapshots_in}
-pub use Rattle.engine_runs.specs.stores.Stores.{IsKnownCourse}
+pub use Rattle.engine_runs.specs.stores.Stores.{IsKnownTrace}
 pub use Rattle.call_laws.specs.whole_calls.Following.{AreJobFailures}
 use Rattle.std.specs.Prelude.{All, Bool, List, [], false, if◌then◌else◌, length, true, ℕ, ◌+◌, ◌≡◌, ◌≤◌}
 use Rattle.engine_runs.specs.declared.start.starting.Started.{Started}
@@ -22,7 +22,7 @@ use Rattle.gl_base.specs.declared.jobs.EngineKind.{EngineKind}
 use Rattle.gl_base.specs.declared.jobs.EngineKind.TheVariants.{Chromatic, Locking}
 use Rattle.gl_base.specs.declared.jobs.FailureAt.{FailureAt}
 use Rattle.graph_core.specs.DataGraph.{DataGraph}
-use Rattle.placed_machines.specs.declared.savers.Places.{Places}
+use Rattle.placed_machines.specs.declared.placing.Places.{Places}
 use Rattle.recovery.specs.Journals.{records_size}
 use Rattle.store.specs.snap_journal.Disks.{DiskPast, Rose}
 use Rattle.store.specs.declared.snap_journal.faults.JournalFault.{JournalFault}
@@ -56,18 +56,18 @@ run_shared g program places failures = record { graph = g; program = program; ow
 -- the store and of the course is so as it starts.
 pub record HasStarted {P : Type 0} (meaning : P → Update) (started : Started P) (header : Header) (bodies : List (List ℕ)) (resumed : Bool) (budget : ℕ) (st : Setting) : Type 0 where
   pub opening : CallOpening
-  pub opens : OpensCall (IsEngineSaverOf meaning) started.course.start started.course.failures st opening
+  pub opens : OpensCall (IsAnyMachineOf meaning) started.trace.start started.trace.failures st opening
   pub resumed_is : opening.resumed ≡ resumed
   pub tickets : opening.first.left ≡ budget
   pub number : opening.base.number ≡ length bodies
-  pub known : IsKnownCourse (IsEngineSaverOf meaning) started.course header bodies bodies [] started.restarts.stored.items started.restarts.front.items started.order.items st opening
+  pub known : IsKnownTrace (IsAnyMachineOf meaning) started.trace header bodies bodies [] started.restarts.stored.items started.restarts.front.items started.order.items st opening
 
 -- Why no call started. `before` and `now` are how often the disk had failed; and a restart has so many bytes, for which the store has no place
 -- where it is too long. Where a disk tells what it holds, its bytes are a store.
-abbrev pub IsWhyNotStarted : {D : Type 0} → (D → DiskPast) → Type 0 → ℕ → JournalState D → JournalState D → ℕ → ℕ → JournalFault → Type 0
-IsWhyNotStarted past told more old new before now DiskFault = (old.failed ≡ false) × (new.failed ≡ true) × Rose before now
-IsWhyNotStarted past told more old new before now (BadStore fault) = (¬ told) × (old.failed ≡ false) × (new.failed ≡ false)
-IsWhyNotStarted past told more old new before now (Full stored bytes) =
+abbrev pub StartErrorCause : {D : Type 0} → (D → DiskPast) → Type 0 → ℕ → JournalState D → JournalState D → ℕ → ℕ → JournalFault → Type 0
+StartErrorCause past told more old new before now DiskFault = (old.failed ≡ false) × (new.failed ≡ true) × Rose before now
+StartErrorCause past told more old new before now (BadStore fault) = (¬ told) × (old.failed ≡ false) × (new.failed ≡ false)
+StartErrorCause past told more old new before now (Full stored bytes) =
     (old.failed ≡ false) × (new.failed ≡ false) × (stored ≡ old.count) × (told → bytes ≡ 65 + records_size (snapshots_in past old)) × (4294967296 ≤ bytes + more)
-IsWhyNotStarted past told more old new before now Failed = (old.failed ≡ true) × (new.failed ≡ true)
-IsWhyNotStarted past told more old new before now NoMemory = (old.failed ≡ false) × (new.failed ≡ false)
+StartErrorCause past told more old new before now Failed = (old.failed ≡ true) × (new.failed ≡ true)
+StartErrorCause past told more old new before now NoMemory = (old.failed ≡ false) × (new.failed ≡ false)

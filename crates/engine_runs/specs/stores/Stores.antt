@@ -1,5 +1,5 @@
 -- A store beside the course of a call.
-pub use Rattle.cluster_step.specs.trace.Courses.{CallOpening, Cluster, CourseGoesOn, CourseView, IsCourseNow, Machine, OpensCall, Setting, as_since, first_cluster, first_setting}
+pub use Rattle.cluster_step.specs.trace.Traces.{CallOpening, Cluster, TraceGoesOn, TraceView, IsTraceNow, Machine, OpensCall, Setting, as_since, first_cluster, first_setting}
 pub use Rattle.recovery.specs.records.Keeping.{IsGoodStore, IsRecordBehind, KeepsUp, fronts_in, recorded_in, stored_order}
 pub use Rattle.store.specs.declared.store_format.header.Header.{Header}
 use Rattle.std.specs.Prelude.{List, filter, length, ℕ, ◌*◌, ◌+◌, ◌≡◌}
@@ -12,15 +12,15 @@ use Rattle.call_laws.specs.whole_calls.Lost.{AreLostIn}
 
 -- From this opening events have led to where the cluster is. With these the store, which had these snapshots as the call opened, has kept
 -- up; and their recoveries took these updates away.
-pub record IsStoredCourse {M : Type 0} (stands : Setting → ℕ → Machine → M → Type 0) (v : CourseView M) (header : Header) (start bodies : List (List ℕ)) (lost : List Entry) (st : Setting) (o : CallOpening) : Type 0 where
+pub record IsStoredTrace {M : Type 0} (represents : Setting → ℕ → Machine → M → Type 0) (v : TraceView M) (header : Header) (start bodies : List (List ℕ)) (lost : List Entry) (st : Setting) (o : CallOpening) : Type 0 where
   pub events : List law.Event
   pub cluster : Cluster
-  pub now : IsCourseNow stands v st o events cluster
+  pub now : IsTraceNow represents v st o events cluster
   pub keeps : KeepsUp st v.failures header start (fronts_in (first_setting st o) (first_cluster st o) events) (recorded_in (first_setting st o) (first_cluster st o) events) bodies
   pub taken : AreLostIn (first_setting st o) (first_cluster st o) events lost
 
 -- it is the same call, remembered where the other is
-pub record IsRememberedAt {M : Type 0} (old new : CourseView M) : Type 0 where
+pub record IsRememberedAt {M : Type 0} (old new : TraceView M) : Type 0 where
   pub start : new.start ≡ old.start
   pub failures : new.failures ≡ old.failures
   pub done : new.done ≡ old.done
@@ -37,9 +37,9 @@ pub record IsStoreFor (st : Setting) (header : Header) : Type 0 where
 -- From this opening, with the order of that store's last snapshot, a course has led here, with which a store for this setting has kept up. These
 -- are the restarts of its last order; the newest attempt began with this order, and these are its restarts. The coordinator knows how many
 -- snapshots the store has, and where it ends, with place for the restarts that it lacks.
-pub record IsKnownCourse {M : Type 0} (stands : Setting → ℕ → Machine → M → Type 0) (v : CourseView M) (header : Header) (start bodies : List (List ℕ)) (lost stored front order : List Entry) (st : Setting) (o : CallOpening) : Type 0 where
+pub record IsKnownTrace {M : Type 0} (represents : Setting → ℕ → Machine → M → Type 0) (v : TraceView M) (header : Header) (start bodies : List (List ℕ)) (lost stored front order : List Entry) (st : Setting) (o : CallOpening) : Type 0 where
   pub kept : o.kept ≡ stored_order start
-  pub was : IsStoredCourse stands v header start bodies lost st o
+  pub was : IsStoredTrace represents v header start bodies lost st o
   pub fits : IsStoreFor st header
   pub stored_are : stored ≡ filter is_restart (stored_order bodies)
   pub base : was.cluster.base.order ≡ order

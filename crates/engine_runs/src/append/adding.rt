@@ -1,10 +1,10 @@
 //! The snapshot that is due is added to a store, and acknowledged.
 ghost use Rattle.std.specs.Prelude.{Err, List, ◌≡◌, ◌+◌, ◌<◌, ◌^◌, ◌≤◌, ℕ, false, IfErr, IfOk, IsErrOf, IsTrue, OnErr, OnOk};
 ghost use Rattle.gl_base.specs.declared.entries.Entry.{Entry};
-ghost use Rattle.engine_runs.specs.append.Appends.{Begins, CallOpening, HasOneMore, IsDueWith, IsGoodImage, IsNewestLine, IsWhyNotAppended, KnowsJournal, LeavesOnly, NeedsMore, Setting, snapshots_in};
+ghost use Rattle.engine_runs.specs.append.Appends.{Begins, CallOpening, HasOneMore, IsDueWith, IsGoodImage, IsNewestLine, AppendDueErrorCause, KnowsJournal, LeavesOnly, NeedsMore, Setting, snapshots_in};
 ghost use Rattle.engine_runs.specs.append.Inner.Storing.{no_record};
-ghost use Rattle.cluster_step.specs.trace.Courses.{IsSameAttempt};
-ghost use Rattle.cluster_step.specs.trace.Events.{CanHappenInCall, CanNotHappenInCall, HappensInCall, StaysThere};
+ghost use Rattle.cluster_step.specs.trace.Traces.{IsSameAttempt};
+ghost use Rattle.cluster_step.specs.trace.Events.{CanHappenInCall, IsEventDisabled, HappensInCall, StaysThere};
 ghost use Rattle.cluster_laws.specs.cluster_runs.Recorded.{shared_of};
 ghost use Rattle.coordinator.specs.coord_core.Calls.{IsDueOf};
 ghost use Rattle.cluster_step.specs.clusters.Events.{IsReadyToAcknowledge};
@@ -12,7 +12,7 @@ ghost use Rattle.cluster_step.specs.clusters.Events.{IsReadyToAcknowledge};
 use crate::answers::SnapLine;
 use crate::append::faults::AppendFault;
 use crate::append::storing::store_record;
-use cluster_step::trace::{Course, Due, Event, Lead, SavingMachine};
+use cluster_step::trace::{Due, Event, Lead, SavingMachine, Trace};
 use gl_base::{Record, Refused};
 use gl_outside::Disk;
 use recovery::restarts::{Restarts, missing_restarts, record_behind};
@@ -27,7 +27,7 @@ use store::snap_journal::Journal;
 /// and may have the snapshot, which was not acknowledged.
 pub(crate) fn append_due<D: Disk, M: SavingMachine>(
     alloc: Global,
-    course: &mut Course<M>,
+    trace: &mut Trace<M>,
     journal: &mut Journal<D>,
     restarts: &mut Restarts,
 ) -> Result<SnapLine, AppendFault>
@@ -36,11 +36,11 @@ pub(crate) fn append_due<D: Disk, M: SavingMachine>(
 
     // The snapshot is acknowledged where it was added.
     ensures acknowledged { OnOk result
-        (HappensInCall M.stands course.old (Event.Lead Lead.Record) course.new) }
+        (HappensInCall M.represents trace.old (Event.Lead Lead.Record) trace.new) }
     ensures since { OnOk result
-        (IsSameAttempt (record course.old { since = course.new.now }) course.new) }
-    ensures stays { OnErr result (StaysThere M.stands course.old course.new) }
-    ensures same { OnErr result (IsSameAttempt course.old course.new) }
+        (IsSameAttempt (record trace.old { since = trace.new.now }) trace.new) }
+    ensures stays { OnErr result (StaysThere M.represents trace.old trace.new) }
+    ensures same { OnErr result (IsSameAttempt trace.old trace.new) }
 
     // The store has each restart that the newest attempt began with.
     ensures restarts { OnOk result ((restarts.new.front ≡ restarts.old.front) ×
@@ -48,43 +48,43 @@ pub(crate) fn append_due<D: Disk, M: SavingMachine>(
     ensures kept { OnErr result (restarts.new ≡ restarts.old) }
 
     // What is known of the store is known of what it has now.
-    ensures more { IsTrue D.told → OnOk result (HasOneMore D.past journal.old journal.new) }
-    ensures known { IsTrue D.told →
+    ensures more { IsTrue D.observable → OnOk result (HasOneMore D.past journal.old journal.new) }
+    ensures known { IsTrue D.observable →
         OnOk result ((start : List (List ℕ)) (lost order : List Entry)
         (st : Setting) (o : CallOpening) →
-        KnowsJournal M.stands D.past course.old journal.old start lost restarts.old order st o →
-        KnowsJournal M.stands D.past course.new journal.new start lost restarts.new order st o) }
-    ensures line { IsTrue D.told →
+        KnowsJournal M.represents D.past trace.old journal.old start lost restarts.old order st o →
+        KnowsJournal M.represents D.past trace.new journal.new start lost restarts.new order st o) }
+    ensures line { IsTrue D.observable →
         IfOk result (λ line.
         (start : List (List ℕ)) (lost order : List Entry) (st : Setting) (o : CallOpening) →
-        KnowsJournal M.stands D.past course.old journal.old start lost restarts.old order st o →
-        IsNewestLine st course.old.failures (snapshots_in D.past journal.new) line) }
+        KnowsJournal M.represents D.past trace.old journal.old start lost restarts.old order st o →
+        IsNewestLine st trace.old.failures (snapshots_in D.past journal.new) line) }
 
     // Whatever a crash leaves at any moment of the call is a good store, with the snapshot or
     // without it.
-    ensures any_moment { IsTrue D.told →
+    ensures any_moment { IsTrue D.observable →
         (start : List (List ℕ)) (lost order : List Entry) (st : Setting) (o : CallOpening) →
-        KnowsJournal M.stands D.past course.old journal.old start lost restarts.old order st o →
+        KnowsJournal M.represents D.past trace.old journal.old start lost restarts.old order st o →
         LeavesOnly (D.past journal.old.disk) (D.past journal.new.disk)
-        (IsGoodImage (shared_of st course.old.failures) journal.old.header
+        (IsGoodImage (shared_of st trace.old.failures) journal.old.header
         (snapshots_in D.past journal.old)) }
 
     // `Full` comes only where more of the store was needed.
-    ensures needed { IsTrue D.told →
+    ensures needed { IsTrue D.observable →
         (start : List (List ℕ)) (lost order : List Entry) (st : Setting) (o : CallOpening) →
-        KnowsJournal M.stands D.past course.old journal.old start lost restarts.old order st o →
-        (k : ℕ) → IsDueOf course.old.now.coordinator (Due.Record k) → (stored long : ℕ) →
-        IsErrOf result (AppendFault.Full stored long) → NeedsMore M.stands course.old st o }
+        KnowsJournal M.represents D.past trace.old journal.old start lost restarts.old order st o →
+        (k : ℕ) → IsDueOf trace.old.now.coordinator (Due.Record k) → (stored long : ℕ) →
+        IsErrOf result (AppendFault.Full stored long) → NeedsMore M.represents trace.old st o }
 
     // A record that is due is in the form of the store, where the call draws fewer tickets than
     // each snapshot may have.
-    ensures form { IsTrue D.told →
+    ensures form { IsTrue D.observable →
         (start : List (List ℕ)) (lost order : List Entry) (st : Setting) (o : CallOpening) →
-        KnowsJournal M.stands D.past course.old journal.old start lost restarts.old order st o →
+        KnowsJournal M.represents D.past trace.old journal.old start lost restarts.old order st o →
         o.first.left < 33554432 → IsErrOf result AppendFault.NotInForm → ⊥ }
 
     ensures refused { IfErr result
-        (IsWhyNotAppended M.stands course.old restarts.old journal.old journal.new
+        (AppendDueErrorCause M.represents trace.old restarts.old journal.old journal.new
         (D.faults journal.old.disk) (D.faults journal.new.disk)) }
     ensures header { journal.new.header ≡ journal.old.header }
     ensures counted { OnOk result (journal.new.count ≡ journal.old.count + 1) }
@@ -95,12 +95,12 @@ pub(crate) fn append_due<D: Disk, M: SavingMachine>(
 {
     let stored = journal.count();
     let length = journal.length();
-    let made = match due_record(alloc, course, restarts) {
+    let made = match due_record(alloc, trace, restarts) {
         Ok(made) => made,
         Err(refused) => return Err(no_record(refused, stored, length)),
     };
     let line = store_record(alloc, journal, restarts, &made)?;
-    course.acknowledge(made.number);
+    trace.acknowledge(made.number);
     Ok(line)
 }
 
@@ -108,20 +108,20 @@ pub(crate) fn append_due<D: Disk, M: SavingMachine>(
 /// nothing. `NotNow` comes exactly where the snapshot may not be acknowledged.
 fn due_record<M: SavingMachine>(
     alloc: Global,
-    course: &mut Course<M>,
+    trace: &mut Trace<M>,
     restarts: &Restarts,
 ) -> Result<Record, Refused>
     requires { Begins restarts.now.stored.items restarts.now.front.items }
-    ensures made { IfOk result (IsDueWith M.stands course.old restarts.now) }
-    ensures ready { IfOk result (λ made. IsReadyToAcknowledge course.new.now made.number) }
-    ensures due { OnOk result (CanHappenInCall M.stands course.old (Event.Lead Lead.Record)) }
+    ensures made { IfOk result (IsDueWith M.represents trace.old restarts.now) }
+    ensures ready { IfOk result (λ made. IsReadyToAcknowledge trace.new.now made.number) }
+    ensures due { OnOk result (CanHappenInCall M.represents trace.old (Event.Lead Lead.Record)) }
     ensures not_now { IsErrOf result Refused.NotNow →
-        CanNotHappenInCall M.stands course.old (Event.Lead Lead.Record) }
-    ensures stays { StaysThere M.stands course.old course.new }
-    ensures same { IsSameAttempt course.old course.new }
+        IsEventDisabled M.represents trace.old (Event.Lead Lead.Record) }
+    ensures stays { StaysThere M.represents trace.old trace.new }
+    ensures same { IsSameAttempt trace.old trace.new }
 {
     let missing = missing_restarts(alloc, &restarts.stored, &restarts.front, 0, 0)?;
-    let saved = course.record(alloc)?;
+    let saved = trace.record(alloc)?;
     Ok(record_behind(alloc, saved, &missing)?)
 }
 

@@ -3,7 +3,7 @@ ghost use Rattle.std.specs.Prelude.{◌≡◌, ◌+◌, ◌^◌, ◌≤◌, ◌�
 ghost use Rattle.engine_runs.specs.append.Appends.{IsInForm, LeavesOnly, snapshots_in, stored_order};
 ghost use Rattle.engine_runs.specs.append.Folds.{IsFoldOf};
 ghost use Rattle.engine_runs.specs.append.Inner.Numbers.{NumbersFit};
-ghost use Rattle.engine_runs.specs.append.Inner.Storing.{HasStored, IsFaultOfAppend, IsWhyNoFold, IsWhyNotPut, IsWhyNotStored, IsWithRecord, append_fault};
+ghost use Rattle.engine_runs.specs.append.Inner.Storing.{HasStored, IsFaultOfAppend, FoldErrorCause, PutErrorCause, StoreRecordErrorCause, IsWithRecord, append_fault};
 ghost use Rattle.engine_runs.specs.answers.Lines.{fold_in};
 
 use crate::answers::SnapLine;
@@ -27,22 +27,22 @@ pub(crate) fn store_record<D: Disk>(
 ) -> Result<SnapLine, AppendFault>
     requires { journal.old.failed ≡ false }
     ensures stored { OnOk result
-        (HasStored (IsTrue D.told) D.past journal.old journal.new made.now) }
+        (HasStored (IsTrue D.observable) D.past journal.old journal.new made.now) }
     ensures number { IfOk result (λ line. line.number ≡ made.now.number) }
-    ensures entries { IsTrue D.told →
+    ensures entries { IsTrue D.observable →
         IfOk result (λ line.
         line.entries ≡ length (stored_order (snapshots_in D.past journal.new))) }
     ensures fold { IfOk result (λ line. IsFoldOf journal.old.header.n made.now (fold_in line)) }
     ensures restarts { OnOk result ((restarts.new.front ≡ restarts.old.front) ×
         (restarts.new.stored.items ≡ restarts.old.front.items)) }
     ensures kept { OnErr result (restarts.new ≡ restarts.old) }
-    ensures any_moment { IsTrue D.told →
+    ensures any_moment { IsTrue D.observable →
         LeavesOnly (D.past journal.old.disk) (D.past journal.new.disk)
         (IsWithRecord journal.old.header journal.old.count
         (snapshots_in D.past journal.old) made.now) }
     ensures short { OnOk result (journal.new.length ≤ 2 ^ 30) }
     ensures refused { IfErr result
-        (IsWhyNotStored journal.old journal.new (D.faults journal.old.disk)
+        (StoreRecordErrorCause journal.old journal.new (D.faults journal.old.disk)
         (D.faults journal.new.disk) made.now) }
     ensures fits { NumbersFit made.now }
     ensures header { journal.new.header ≡ journal.old.header }
@@ -74,7 +74,7 @@ fn fold_in_form(
 ) -> Result<Fold, AppendFault>
     ensures form { OnOk result (IsInForm header.now stored made.now) }
     ensures fold { IfOk result (IsFoldOf header.now.n made.now) }
-    ensures refused { IfErr result (IsWhyNoFold header.now stored made.now) }
+    ensures refused { IfErr result (FoldErrorCause header.now stored made.now) }
 {
     if !is_in_form(alloc, header, stored, made)? {
         return Err(AppendFault::NotInForm);
@@ -97,14 +97,14 @@ fn put<D: Disk>(alloc: Global, journal: &mut Journal<D>, made: &Record) -> Resul
     requires well { journal.old.failed ≡ false }
     requires form { IsInForm journal.old.header journal.old.count made.now }
     ensures stored { OnOk result
-        (HasStored (IsTrue D.told) D.past journal.old journal.new made.now) }
-    ensures any_moment { IsTrue D.told →
+        (HasStored (IsTrue D.observable) D.past journal.old journal.new made.now) }
+    ensures any_moment { IsTrue D.observable →
         LeavesOnly (D.past journal.old.disk) (D.past journal.new.disk)
         (IsWithRecord journal.old.header journal.old.count
         (snapshots_in D.past journal.old) made.now) }
     ensures short { OnOk result (journal.new.length ≤ 2 ^ 30) }
     ensures refused { IfErr result
-        (IsWhyNotPut journal.old journal.new (D.faults journal.old.disk)
+        (PutErrorCause journal.old journal.new (D.faults journal.old.disk)
         (D.faults journal.new.disk) made.now) }
     ensures header { journal.new.header ≡ journal.old.header }
     ensures disk { D.same journal.old.disk journal.new.disk }

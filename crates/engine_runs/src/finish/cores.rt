@@ -3,17 +3,17 @@ ghost use Rattle.std.specs.Prelude.{◌≡◌};
 ghost use Rattle.engine_runs.specs.finish.Inner.Cores.{IsOrderly, KnowsPlaces, core_held};
 
 use machine_core::machine_parts::Core;
-use placed_machines::engine_savers::EngineSaver;
+use placed_machines::any_machine::AnyMachine;
 use update_api::Program;
 
 /// The parts of the machine, which are in order.
-pub(crate) fn core_of<P: Program>(saver: &EngineSaver<P>) -> &Core
+pub(crate) fn core_of<P: Program>(saver: &AnyMachine<P>) -> &Core
     ensures parts { result.now ≡ core_held saver.now }
     ensures orderly { IsOrderly result.now }
     ensures places { KnowsPlaces result.now }
 {
     match saver {
-        EngineSaver::Locking(saver) => saver.machine().core(),
-        EngineSaver::Chromatic(saver) => saver.machine().core(),
+        AnyMachine::Locking(saver) => saver.machine().core(),
+        AnyMachine::Chromatic(saver) => saver.machine().core(),
     }
 }

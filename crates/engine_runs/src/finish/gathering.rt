@@ -1,17 +1,17 @@
 //! The lists of a call.
 ghost use Rattle.std.specs.Prelude.{◌≡◌, ◌≤◌, ◌<◌, All, List, ℕ, false, length, slice_index, slice_index_or, true, IfOk, IsErrOf};
-ghost use Rattle.engine_runs.specs.finish.Gathered.{ArePlacesOf, CallOpening, Cluster, Event, GathersFrom, IsCourseNow, IsEngineSaverOf, IsEntryOf, IsGathered, InEachCourse, Setting, placed_owner, reached_places};
+ghost use Rattle.engine_runs.specs.finish.Gathered.{ArePlacesOf, CallOpening, Cluster, Event, GathersFrom, IsTraceNow, IsAnyMachineOf, IsEntryOf, IsGathered, InEachTrace, Setting, placed_owner, reached_places};
 ghost use Rattle.cluster_laws.specs.cluster_model.Machines.{completed};
 ghost use Rattle.graph_core.specs.DataGraph.{size};
 
 use crate::finish::fired::fired_places;
 use crate::finish::logs::order_behind;
 use crate::finish::numbers::vertex_numbers;
-use cluster_step::trace::Course;
+use cluster_step::trace::Trace;
 use gl_base::{Entry, FailureAt, NoMemory};
 use graph_core::Graph;
 use placed_machines::Places;
-use placed_machines::engine_savers::EngineSaver;
+use placed_machines::any_machine::AnyMachine;
 use std::alloc::Global;
 use update_api::Program;
 
@@ -53,24 +53,24 @@ impl From<NoMemory> for GatherFault {
 pub(crate) fn gather_call<P: Program>(
     alloc: Global,
     graph: &Graph,
-    course: &Course<EngineSaver<P>>,
+    trace: &Trace<AnyMachine<P>>,
     places: &Places,
     failures: &[FailureAt],
     front: Vec<Entry>,
     lost: Vec<Entry>,
 ) -> Result<CallLists, GatherFault>
-    requires places { ArePlacesOf graph.now (length course.now.now.machines.items) places.now }
-    requires failures { course.now.failures ≡ failures.now }
+    requires places { ArePlacesOf graph.now (length trace.now.now.machines.items) places.now }
+    requires failures { trace.now.failures ≡ failures.now }
     requires few { length failures.now ≤ 65536 }
 
     ensures gathered { IfOk result (λ lists.
         (st : Setting) (o : CallOpening) (events : List Event) (c : Cluster) →
-        IsCourseNow (IsEngineSaverOf P.meaning) course.now st o events c →
+        IsTraceNow (IsAnyMachineOf P.meaning) trace.now st o events c →
         GathersFrom graph.now places.now front.items lost.items st o events c →
-        IsGathered course.now.failures st o events c lists) }
+        IsGathered trace.now.failures st o events c lists) }
     ensures other { IsErrOf result GatherFault.OtherGraph →
         (st : Setting) (o : CallOpening) (events : List Event) (c : Cluster) →
-        IsCourseNow (IsEngineSaverOf P.meaning) course.now st o events c →
+        IsTraceNow (IsAnyMachineOf P.meaning) trace.now st o events c →
         GathersFrom graph.now places.now front.items lost.items st o events c → ⊥ }
 
     // Told or not.
@@ -78,7 +78,7 @@ pub(crate) fn gather_call<P: Program>(
     ensures numbers { IfOk result (λ lists. length lists.numbers.items ≡ size graph.now) }
     ensures lost { IfOk result (λ lists. lists.lost ≡ lost) }
 {
-    let Ok(order) = order_behind(alloc, course, front) else {
+    let Ok(order) = order_behind(alloc, trace, front) else {
         drop(lost);
         return Err(GatherFault::NoMemory);
     };
@@ -87,7 +87,7 @@ pub(crate) fn gather_call<P: Program>(
         drop(lost);
         return Err(GatherFault::OtherGraph);
     }
-    let Ok(counts) = counts_of(alloc, graph, course, places, failures) else {
+    let Ok(counts) = counts_of(alloc, graph, trace, places, failures) else {
         drop(order);
         drop(lost);
         return Err(GatherFault::NoMemory);
@@ -106,28 +106,28 @@ pub(crate) fn gather_call<P: Program>(
 fn counts_of<P: Program>(
     alloc: Global,
     graph: &Graph,
-    course: &Course<EngineSaver<P>>,
+    trace: &Trace<AnyMachine<P>>,
     places: &Places,
     failures: &[FailureAt],
 ) -> Result<(Vec<u64>, Vec<u16>, Vec<u64>), NoMemory>
-    requires places { ArePlacesOf graph.now (length course.now.now.machines.items) places.now }
+    requires places { ArePlacesOf graph.now (length trace.now.now.machines.items) places.now }
     requires few { length failures.now ≤ 65536 }
     ensures many { IfOk result (λ counts.
-        length counts.0.items ≡ length course.now.now.machines.items) }
-    ensures made { IfOk result (λ counts. (a : ℕ) → a < length course.now.now.machines.items →
-        InEachCourse (IsEngineSaverOf P.meaning) course.now (λ st o events c.
+        length counts.0.items ≡ length trace.now.now.machines.items) }
+    ensures made { IfOk result (λ counts. (a : ℕ) → a < length trace.now.now.machines.items →
+        InEachTrace (IsAnyMachineOf P.meaning) trace.now (λ st o events c.
         slice_index_or counts.0.items a 0 ≡ completed (c.machine a))) }
     ensures fired { IfOk result (λ counts.
         counts.1.items ≡ reached_places (λ m. slice_index_or counts.0.items m 0) 0 failures.now) }
     ensures count { IfOk result (λ counts. length counts.2.items ≡ size graph.now) }
     ensures numbers { IfOk result (λ counts. (v : ℕ) → v < size graph.now →
-        InEachCourse (IsEngineSaverOf P.meaning) course.now (λ st o events c.
+        InEachTrace (IsAnyMachineOf P.meaning) trace.now (λ st o events c.
         v < size st.graph → st.owner v ≡ placed_owner places.now.of.items places.now.owner.items v →
         slice_index counts.2.items v ≡ ((c.machine (st.owner v)).part.datum v).value)) }
 {
-    let done = course.all_completed(alloc)?;
+    let done = trace.all_completed(alloc)?;
     let fired = fired_places(alloc, failures, &done)?;
-    let numbers = vertex_numbers(alloc, graph, course, places)?;
+    let numbers = vertex_numbers(alloc, graph, trace, places)?;
     Ok((done, fired, numbers))
 }
 

@@ -1,7 +1,7 @@
 //! Laws of how a call ends. Each is the contract of a function that does nothing.
 ghost use Rattle.std.specs.Prelude.{List, ℕ};
-ghost use Rattle.engine_runs.specs.finish.Ends.{Header, IsEndedRun, IsKnownCourse};
-ghost use Rattle.engine_runs.specs.finish.Gathered.{CallOpening, CourseView, ListsOfCourse, RunLists, Setting};
+ghost use Rattle.engine_runs.specs.finish.Ends.{Header, IsEndedRun, IsKnownTrace};
+ghost use Rattle.engine_runs.specs.finish.Gathered.{CallOpening, TraceView, ListsOfTrace, RunLists, Setting};
 ghost use Rattle.gl_base.specs.declared.entries.Entry.{Entry};
 
 use cluster_step::trace::SavingMachine;
@@ -10,10 +10,10 @@ use cluster_step::trace::SavingMachine;
 /// window; the store has its snapshots behind those with which it began; and as the course pauses
 /// the run ends: it is finished, or spent, or the store is full.
 pub fn calls_end_so<M: SavingMachine>()
-    ensures { (v : CourseView M) (header : Header) (start bodies : List (List ℕ))
+    ensures { (v : TraceView M) (header : Header) (start bodies : List (List ℕ))
         (lost stored front order : List Entry) (st : Setting) (o : CallOpening)
-        (known : IsKnownCourse M.stands v header start bodies lost stored front order st o)
+        (known : IsKnownTrace M.represents v header start bodies lost stored front order st o)
         (lists : RunLists) →
-        ListsOfCourse st v.failures o.base o.first known.was.events known.was.cluster lists →
-        IsEndedRun M.stands v start bodies st o known.was.events known.was.cluster lists }
+        ListsOfTrace st v.failures o.base o.first known.was.events known.was.cluster lists →
+        IsEndedRun M.represents v start bodies st o known.was.events known.was.cluster lists }
 {}

@@ -1,10 +1,10 @@
 //! The order of a call.
 ghost use Rattle.std.specs.Prelude.{◌≡◌, List, IfOk};
-ghost use Rattle.engine_runs.specs.finish.Gathered.{InEachCourse, IsMerge, all_logged, machine_logs};
+ghost use Rattle.engine_runs.specs.finish.Gathered.{InEachTrace, IsMerge, all_logged, machine_logs};
 ghost use Rattle.engine_runs.specs.finish.Inner.Orders.{HasMergedBehind};
 ghost use Rattle.cluster_laws.specs.cluster_core.Replays.{ticket_of};
 
-use cluster_step::trace::{Course, SavingMachine};
+use cluster_step::trace::{SavingMachine, Trace};
 use gl_base::{Entry, MachineNo, NoMemory};
 use std::alloc::Global;
 
@@ -12,12 +12,12 @@ use std::alloc::Global;
 /// made in it, by ticket.
 pub(crate) fn order_behind<M: SavingMachine>(
     alloc: Global,
-    course: &Course<M>,
+    trace: &Trace<M>,
     front: Vec<Entry>,
 ) -> Result<Vec<Entry>, NoMemory>
-    ensures { IfOk result (HasMergedBehind M.stands course.now front.items) }
+    ensures { IfOk result (HasMergedBehind M.represents trace.now front.items) }
 {
-    let merged = merged_logs(alloc, course)?;
+    let merged = merged_logs(alloc, trace)?;
     let mut order = front;
     order.extend_from_slice(&merged)?;
     Ok(order)
@@ -26,26 +26,26 @@ pub(crate) fn order_behind<M: SavingMachine>(
 /// The updates of all machines in the newest attempt, by ticket.
 pub(crate) fn merged_logs<M: SavingMachine>(
     alloc: Global,
-    course: &Course<M>,
+    trace: &Trace<M>,
 ) -> Result<Vec<Entry>, NoMemory>
     ensures { IfOk result (λ merged.
-        InEachCourse M.stands course.now (λ st o events c.
+        InEachTrace M.represents trace.now (λ st o events c.
         IsMerge (all_logged (machine_logs st.machines c)) merged.items)) }
 {
-    let mut merged = all_logs(alloc, course)?;
+    let mut merged = all_logs(alloc, trace)?;
     merged.sort_unstable_by_key(|entry| ticket(*entry));
     Ok(merged)
 }
 
 /// The logs of all machines, one behind the other.
-fn all_logs<M: SavingMachine>(alloc: Global, course: &Course<M>) -> Result<Vec<Entry>, NoMemory>
+fn all_logs<M: SavingMachine>(alloc: Global, trace: &Trace<M>) -> Result<Vec<Entry>, NoMemory>
     ensures { IfOk result (λ all.
-        InEachCourse M.stands course.now (λ st o events c.
+        InEachTrace M.represents trace.now (λ st o events c.
         all.items ≡ all_logged (machine_logs st.machines c))) }
 {
     let mut all = Vec::new(alloc);
-    for m in 0..course.machines() {
-        all.extend_from_slice(course.log(MachineNo(m as u16)))?;
+    for m in 0..trace.machines() {
+        all.extend_from_slice(trace.log(MachineNo(m as u16)))?;
     }
     Ok(all)
 }

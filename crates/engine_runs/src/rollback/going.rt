@@ -1,7 +1,7 @@
 //! All machines of a call go back.
 ghost use Rattle.std.specs.Prelude.{◌≡◌, ◌≤◌, ◌+◌, ◌*◌, ◌^◌, ℕ, List, false, length, IfErr, IfOk, IsTrue, OnErr, OnOk};
 ghost use Rattle.engine_runs.specs.rollback.Failing.{HaveFailedSince};
-ghost use Rattle.engine_runs.specs.rollback.Returning.{ArePlacesOf, Begins, CallOpening, HasReachedSome, InEachCourse, IsEngineSaverOf, IsKnownCourse, IsRunAt, IsSameAttempt, IsWhyNotBack, Setting};
+ghost use Rattle.engine_runs.specs.rollback.Returning.{ArePlacesOf, Begins, CallOpening, HasReachedSome, InEachTrace, IsAnyMachineOf, IsKnownTrace, IsRunAt, IsSameAttempt, GoBackErrorCause, Setting};
 ghost use Rattle.cluster_laws.specs.cluster_model.Events.{failures_in};
 ghost use Rattle.gl_base.specs.declared.entries.Entry.{Entry};
 ghost use Rattle.recovery.specs.Recovered.{IsHeaderOf};
@@ -9,12 +9,12 @@ ghost use Rattle.store.specs.snap_journal.Journals.{snapshots_in};
 
 use crate::rollback::failing::fail_reached;
 use crate::rollback::next_attempts::next_attempt;
-use cluster_step::trace::Course;
+use cluster_step::trace::Trace;
 use gl_base::{Entry, NoMemory};
 use gl_outside::Disk;
 use graph_core::Graph;
 use placed_machines::Places;
-use placed_machines::engine_savers::EngineSaver;
+use placed_machines::any_machine::AnyMachine;
 use recovery::restarts::Restarts;
 use std::alloc::Global;
 use store::snap_journal::{Journal, JournalFault};
@@ -30,7 +30,7 @@ use update_api::Program;
 /// `DiskFault` open the store again.
 pub fn go_back<D: Disk, P: Program>(
     alloc: Global,
-    course: &mut Course<EngineSaver<P>>,
+    trace: &mut Trace<AnyMachine<P>>,
     journal: &mut Journal<D>,
     graph: &Graph,
     program: P,
@@ -38,49 +38,49 @@ pub fn go_back<D: Disk, P: Program>(
     restarts: &mut Restarts,
     lost: &mut Vec<Entry>,
 ) -> Result<Vec<Entry>, JournalFault>
-    requires places { ArePlacesOf graph.now (length course.old.now.machines.items) places.now }
+    requires places { ArePlacesOf graph.now (length trace.old.now.machines.items) places.now }
     requires header { IsHeaderOf graph.now journal.old.header }
     requires first { Begins restarts.old.stored.items restarts.old.front.items }
 
     // Of a disk that tells what it holds: where the store has kept up with the run from an opening,
     // in which a machine has reached the count of a failure, it has with the run as it goes on.
-    ensures back { IsTrue D.told → course.old.now.stopped ≡ false →
+    ensures back { IsTrue D.observable → trace.old.now.stopped ≡ false →
         (start : List (List ℕ)) (order : List Entry) (st : Setting) (o : CallOpening) →
         IsRunAt graph.now (P.meaning program) places.now st →
-        (known : IsKnownCourse (IsEngineSaverOf P.meaning) course.old journal.old.header start
+        (known : IsKnownTrace (IsAnyMachineOf P.meaning) trace.old journal.old.header start
         (snapshots_in D.past journal.old) lost.old.items restarts.old.stored.items
         restarts.old.front.items order st o) →
-        HasReachedSome course.old st known.was.cluster →
+        HasReachedSome trace.old st known.was.cluster →
         IfOk result (λ order.
-        IsKnownCourse (IsEngineSaverOf P.meaning) course.new journal.old.header start
+        IsKnownTrace (IsAnyMachineOf P.meaning) trace.new journal.old.header start
         (snapshots_in D.past journal.old) lost.new.items restarts.new.stored.items
         restarts.new.front.items order.items st o) }
 
     // Whatever the disk holds.
-    ensures since { OnOk result (course.new.since ≡ course.new.now) }
-    ensures runs { OnOk result (course.new.now.stopped ≡ false) }
-    ensures call { (course.new.start ≡ course.old.start) ×
-        (course.new.failures ≡ course.old.failures) ×
-        (length course.new.now.machines.items ≡ length course.old.now.machines.items) }
+    ensures since { OnOk result (trace.new.since ≡ trace.new.now) }
+    ensures runs { OnOk result (trace.new.now.stopped ≡ false) }
+    ensures call { (trace.new.start ≡ trace.old.start) ×
+        (trace.new.failures ≡ trace.old.failures) ×
+        (length trace.new.now.machines.items ≡ length trace.old.now.machines.items) }
     ensures first { Begins restarts.new.stored.items restarts.new.front.items }
     ensures stored { restarts.new.stored ≡ restarts.old.stored }
     ensures lost { Begins lost.old.items lost.new.items }
 
     ensures refused { IfErr result
-        (IsWhyNotBack (IsTrue D.told)
-        (InEachCourse (IsEngineSaverOf P.meaning) course.new (λ st o events c.
+        (GoBackErrorCause (IsTrue D.observable)
+        (InEachTrace (IsAnyMachineOf P.meaning) trace.new (λ st o events c.
         2 ^ 32 ≤ c.coordinator.store_end + 16 * failures_in st c))
         journal.old.failed journal.new.failed (D.faults journal.old.disk)
         (D.faults journal.new.disk)) }
-    ensures attempt { OnErr result (IsSameAttempt course.old course.new) }
+    ensures attempt { OnErr result (IsSameAttempt trace.old trace.new) }
     ensures failed { OnErr result
-        (InEachCourse (IsEngineSaverOf P.meaning) course.old
-        (HaveFailedSince (IsEngineSaverOf P.meaning) course.new (λ a. ⊥))) }
+        (InEachTrace (IsAnyMachineOf P.meaning) trace.old
+        (HaveFailedSince (IsAnyMachineOf P.meaning) trace.new (λ a. ⊥))) }
     ensures unlost { OnErr result ((lost.new ≡ lost.old) × (restarts.new ≡ restarts.old)) }
 
     // The journal is as it is where its last snapshot is read.
     ensures well { OnOk result ((journal.old.failed ≡ false) × (journal.new.failed ≡ false)) }
-    ensures past { IsTrue D.told → D.past journal.new.disk ≡ D.past journal.old.disk }
+    ensures past { IsTrue D.observable → D.past journal.new.disk ≡ D.past journal.old.disk }
     ensures kept { journal.new ≡ record journal.old {
       disk = journal.new.disk;
       failed = journal.new.failed;
@@ -88,11 +88,11 @@ pub fn go_back<D: Disk, P: Program>(
     ensures same { D.same journal.old.disk journal.new.disk }
     ensures later { D.faults journal.old.disk ≤ D.faults journal.new.disk }
 {
-    fail_reached(course)?;
+    fail_reached(trace)?;
     let next = next_attempt(
-        alloc, course, journal, graph, program, places, restarts, lost,
+        alloc, trace, journal, graph, program, places, restarts, lost,
     )?;
-    if let Err(NoMemory) = course.recover(alloc, next.machines, places.run.engine, next.store) {
+    if let Err(NoMemory) = trace.recover(alloc, next.machines, places.run.engine, next.store) {
         drop(next.order);
         drop(next.front);
         drop(next.lost);

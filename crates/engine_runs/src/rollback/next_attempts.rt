@@ -1,28 +1,28 @@
 //! The next attempt.
 ghost use Rattle.std.specs.Prelude.{◌≡◌, ◌≤◌, ◌<◌, ◌+◌, ◌*◌, ◌^◌, ◌++◌, ℕ, List, filter, length, true, false, IfErr, IfOk, IsTrue};
 ghost use Rattle.std.specs.List.{AllByRecursion};
-ghost use Rattle.engine_runs.specs.rollback.Returning.{ArePlacesOf, BaseView, Begins, CallOpening, Cluster, GoesBackSo, HasFailures, Header, InEachCourse, IsBaseBehind, IsBaseFor, IsCourseNow, IsEngineSaverOf, IsKnownCourse, IsRunAt, IsWhyNotBack, Setting, StartsSaving, StoreView, is_restart, newest_setting, restarts};
+ghost use Rattle.engine_runs.specs.rollback.Returning.{ArePlacesOf, BaseView, Begins, CallOpening, Cluster, RestartsFrom, HasFailures, Header, InEachTrace, IsBaseBehind, IsBaseFor, IsTraceNow, IsAnyMachineOf, IsKnownTrace, IsRunAt, GoBackErrorCause, Setting, StartsSaving, StoreView, is_restart, newest_setting, restarts};
 ghost use Rattle.cluster_laws.specs.cluster_model.Events.{Event, GoesBackTo, failures_in};
 ghost use Rattle.coordinator.specs.coord_core.Stores.{store_view};
 ghost use Rattle.graph_core.specs.DataGraph.{IsDataGraph, size};
 ghost use Rattle.gl_base.specs.declared.entries.Entry.{Entry};
 ghost use Rattle.call_laws.specs.whole_calls.Lost.{TakesAway};
-ghost use Rattle.placed_machines.specs.Beginning.{AreSaversOf, IsBaseOf};
+ghost use Rattle.placed_machines.specs.Beginning.{AreAnyMachinesOf, IsBaseOf};
 ghost use Rattle.recovery.specs.GoodStores.{IsGoodStore};
 ghost use Rattle.recovery.specs.Orders.{Shared};
 ghost use Rattle.recovery.specs.Recovered.{IsHeaderOf};
 ghost use Rattle.store.specs.snap_journal.Journals.{snapshots_in};
-ghost use Rattle.store.specs.snap_journal.Last.{IsWhyNoLast};
+ghost use Rattle.store.specs.snap_journal.Last.{LastErrorCause};
 
 use crate::rollback::losing::taken_away;
 use crate::rollback::reading::{failures_now, serials};
 use crate::rollback::rooms::store_behind;
-use cluster_step::trace::{Course, SavingMachine, Store};
+use cluster_step::trace::{SavingMachine, Store, Trace};
 use gl_base::{Base, Entry, NoMemory};
 use gl_outside::Disk;
 use graph_core::Graph;
-use placed_machines::engine_savers::EngineSaver;
-use placed_machines::{Places, placed_savers};
+use placed_machines::any_machine::AnyMachine;
+use placed_machines::{Places, machines_of_attempt};
 use recovery::recover;
 use recovery::restarts::{Restarts, base_behind, missing_restarts};
 use std::alloc::Global;
@@ -33,7 +33,7 @@ use update_api::Program;
 /// order and the restarts of that, and the updates that the call has lost then.
 #[derive(Drop)]
 pub(crate) struct NextAttempt<P: Program> {
-    pub(crate) machines: Vec<EngineSaver<P>>,
+    pub(crate) machines: Vec<AnyMachine<P>>,
     pub(crate) store: Store,
     pub(crate) order: Vec<Entry>,
     pub(crate) front: Vec<Entry>,
@@ -43,7 +43,7 @@ pub(crate) struct NextAttempt<P: Program> {
 /// The next attempt, from what the store has.
 pub(crate) fn next_attempt<D: Disk, P: Program>(
     alloc: Global,
-    course: &Course<EngineSaver<P>>,
+    trace: &Trace<AnyMachine<P>>,
     journal: &mut Journal<D>,
     graph: &Graph,
     program: P,
@@ -51,37 +51,37 @@ pub(crate) fn next_attempt<D: Disk, P: Program>(
     restarts: &Restarts,
     lost: &[Entry],
 ) -> Result<NextAttempt<P>, JournalFault>
-    requires places { ArePlacesOf graph.now (length course.now.now.machines.items) places.now }
+    requires places { ArePlacesOf graph.now (length trace.now.now.machines.items) places.now }
     requires header { IsHeaderOf graph.now journal.old.header }
     requires first { Begins restarts.now.stored.items restarts.now.front.items }
     ensures start { IfOk result (λ next. (st : Setting) × (base : BaseView) × (before : Cluster) ×
-        StartsSaving (IsEngineSaverOf P.meaning) next.machines.items places.now.run.engine
-        (store_view next.store) course.now.now.next course.now.now.left st base before) }
+        StartsSaving (IsAnyMachineOf P.meaning) next.machines.items places.now.run.engine
+        (store_view next.store) trace.now.now.next trace.now.now.left st base before) }
     ensures many { IfOk result (λ next.
-        length next.machines.items ≡ length course.now.now.machines.items) }
+        length next.machines.items ≡ length trace.now.now.machines.items) }
     ensures newest { IfOk result (λ next. next.store.newest + 1 < 2 ^ 32) }
     ensures short { IfOk result (λ next. next.store.length < 2 ^ 32) }
     ensures first { IfOk result (λ next. Begins restarts.now.stored.items next.front.items) }
     ensures lost { IfOk result (λ next. Begins lost.now next.lost.items) }
-    ensures back { IsTrue D.told →
+    ensures back { IsTrue D.observable →
         (start : List (List ℕ)) (order : List Entry) (st : Setting) (o : CallOpening) →
         IsRunAt graph.now (P.meaning program) places.now st →
-        (known : IsKnownCourse (IsEngineSaverOf P.meaning) course.now journal.old.header start
+        (known : IsKnownTrace (IsAnyMachineOf P.meaning) trace.now journal.old.header start
         (snapshots_in D.past journal.old) lost.now restarts.now.stored.items
-        restarts.now.front.items order st o) → HasFailures course.now st known.was.cluster →
+        restarts.now.front.items order st o) → HasFailures trace.now st known.was.cluster →
         IfOk result (λ next.
-        GoesBackSo P.meaning course.now next.machines.items places.now.run.engine
+        RestartsFrom P.meaning trace.now next.machines.items places.now.run.engine
         (store_view next.store) next.order.items lost.now next.lost.items restarts.now.front.items
         next.front.items st o known.was.events known.was.cluster) }
     ensures refused { IfErr result
-        (IsWhyNotBack (IsTrue D.told)
-        (InEachCourse (IsEngineSaverOf P.meaning) course.now (λ st o events c.
+        (GoBackErrorCause (IsTrue D.observable)
+        (InEachTrace (IsAnyMachineOf P.meaning) trace.now (λ st o events c.
         2 ^ 32 ≤ c.coordinator.store_end + 16 * failures_in st c))
         journal.old.failed journal.new.failed (D.faults journal.old.disk)
         (D.faults journal.new.disk)) }
     ensures well { IfOk result (λ next. (journal.old.failed ≡ false) ×
         (journal.new.failed ≡ false)) }
-    ensures past { IsTrue D.told → D.past journal.new.disk ≡ D.past journal.old.disk }
+    ensures past { IsTrue D.observable → D.past journal.new.disk ≡ D.past journal.old.disk }
     ensures kept { journal.new ≡ record journal.old {
       disk = journal.new.disk;
       failed = journal.new.failed;
@@ -89,13 +89,13 @@ pub(crate) fn next_attempt<D: Disk, P: Program>(
     ensures same { D.same journal.old.disk journal.new.disk }
     ensures later { D.faults journal.old.disk ≤ D.faults journal.new.disk }
 {
-    let failures = failures_now(alloc, course)?;
+    let failures = failures_now(alloc, trace)?;
     let missing = missing_restarts(
         alloc,
         &restarts.stored,
         &restarts.front,
         failures,
-        course.next(),
+        trace.next(),
     )?;
     let base = match base_with(alloc, journal, graph, &program, &missing) {
         Ok(base) => base,
@@ -104,7 +104,7 @@ pub(crate) fn next_attempt<D: Disk, P: Program>(
             return Err(why);
         }
     };
-    let store = match store_behind(course, graph, base.number, failures) {
+    let store = match store_behind(trace, graph, base.number, failures) {
         Ok(store) => store,
         Err(full) => {
             drop(base);
@@ -113,7 +113,7 @@ pub(crate) fn next_attempt<D: Disk, P: Program>(
         }
     };
     let Ok(next) = attempt_from(
-        alloc, course, graph, program, places, restarts, lost, base, &missing, store,
+        alloc, trace, graph, program, places, restarts, lost, base, &missing, store,
     ) else {
         drop(missing);
         return Err(JournalFault::NoMemory);
@@ -133,17 +133,17 @@ fn base_with<D: Disk, P: Program>(
     requires { IsHeaderOf graph.now journal.old.header }
     ensures numbers { IfOk result (IsBaseFor graph.now) }
     ensures number { IfOk result (λ base. base.number + 1 < 2 ^ 32) }
-    ensures base { IsTrue D.told → (shared : Shared) → shared.graph ≡ graph.now →
+    ensures base { IsTrue D.observable → (shared : Shared) → shared.graph ≡ graph.now →
         shared.program ≡ P.meaning program.now →
         IsGoodStore shared journal.old.header (snapshots_in D.past journal.old) →
         IfOk result (IsBaseBehind shared journal.old.header
         (snapshots_in D.past journal.old) missing.now) }
     ensures refused { IfErr result
-        (IsWhyNoLast (IsTrue D.told) journal.old.failed journal.new.failed
+        (LastErrorCause (IsTrue D.observable) journal.old.failed journal.new.failed
         (D.faults journal.old.disk) (D.faults journal.new.disk)) }
     ensures well { IfOk result (λ base. (journal.old.failed ≡ false) ×
         (journal.new.failed ≡ false)) }
-    ensures past { IsTrue D.told → D.past journal.new.disk ≡ D.past journal.old.disk }
+    ensures past { IsTrue D.observable → D.past journal.new.disk ≡ D.past journal.old.disk }
     ensures kept { journal.new ≡ record journal.old {
       disk = journal.new.disk;
       failed = journal.new.failed;
@@ -159,7 +159,7 @@ fn base_with<D: Disk, P: Program>(
 /// The next attempt from this base, with this store.
 pub(crate) fn attempt_from<P: Program>(
     alloc: Global,
-    course: &Course<EngineSaver<P>>,
+    trace: &Trace<AnyMachine<P>>,
     graph: &Graph,
     program: P,
     places: &Places,
@@ -169,11 +169,11 @@ pub(crate) fn attempt_from<P: Program>(
     missing: &[Entry],
     store: Store,
 ) -> Result<NextAttempt<P>, NoMemory>
-    requires places { ArePlacesOf graph.now (length course.now.now.machines.items) places.now }
+    requires places { ArePlacesOf graph.now (length trace.now.now.machines.items) places.now }
     requires base { IsBaseFor graph.now base }
     requires graph { IsDataGraph graph.now }
     ensures lost { IfOk result (λ next. (gone : List Entry) × (next.lost.items ≡ lost.now ++ gone) ×
-        InEachCourse (IsEngineSaverOf P.meaning) course.now (λ st o events c. (to : BaseView) →
+        InEachTrace (IsAnyMachineOf P.meaning) trace.now (λ st o events c. (to : BaseView) →
         to.order ≡ base.order.items →
         GoesBackTo (newest_setting st o events) c to →
         TakesAway (newest_setting st o events) c to gone)) }
@@ -182,19 +182,19 @@ pub(crate) fn attempt_from<P: Program>(
     ensures order { IfOk result (λ next. next.order.items ≡ base.order.items) }
     ensures store { IfOk result (λ next. next.store ≡ store) }
     ensures many { IfOk result (λ next.
-        length next.machines.items ≡ length course.now.now.machines.items) }
+        length next.machines.items ≡ length trace.now.now.machines.items) }
     ensures stand { IfOk result (λ next.
-        InEachCourse (IsEngineSaverOf P.meaning) course.now (λ st o events c. (to : BaseView) →
+        InEachTrace (IsAnyMachineOf P.meaning) trace.now (λ st o events c. (to : BaseView) →
         IsRunAt graph.now (P.meaning program) places.now (newest_setting st o events) →
         IsBaseOf (newest_setting st o events) base to →
-        AreSaversOf P.meaning (newest_setting st o events) to c next.machines.items)) }
+        AreAnyMachinesOf P.meaning (newest_setting st o events) to c next.machines.items)) }
     ensures start { IfOk result (λ next. (store : StoreView) → store.vertices ≡ size graph.now →
         store.edges ≡ length graph.now.edges → store.newest ≡ base.number →
         (st : Setting) × (to : BaseView) × (before : Cluster) ×
-        StartsSaving (IsEngineSaverOf P.meaning) next.machines.items places.now.run.engine store
-        course.now.now.next course.now.now.left st to before) }
+        StartsSaving (IsAnyMachineOf P.meaning) next.machines.items places.now.run.engine store
+        trace.now.now.next trace.now.now.left st to before) }
 {
-    let Ok(lost) = lost_behind(alloc, course, lost, &base.order) else {
+    let Ok(lost) = lost_behind(alloc, trace, lost, &base.order) else {
         drop(base);
         return Err(NoMemory);
     };
@@ -203,7 +203,7 @@ pub(crate) fn attempt_from<P: Program>(
         drop(base);
         return Err(NoMemory);
     };
-    let Ok(machines) = machines_from(alloc, course, graph, program, &base, places) else {
+    let Ok(machines) = machines_from(alloc, trace, graph, program, &base, places) else {
         drop(front);
         drop(lost);
         drop(base);
@@ -222,16 +222,16 @@ pub(crate) fn attempt_from<P: Program>(
 /// before, and behind them what that takes away.
 fn lost_behind<M: SavingMachine>(
     alloc: Global,
-    course: &Course<M>,
+    trace: &Trace<M>,
     lost: &[Entry],
     order: &[Entry],
 ) -> Result<Vec<Entry>, NoMemory>
     ensures { IfOk result (λ all. (gone : List Entry) × (all.items ≡ lost.now ++ gone) ×
-        InEachCourse M.stands course.now (λ st o events c. (to : BaseView) → to.order ≡ order.now →
+        InEachTrace M.represents trace.now (λ st o events c. (to : BaseView) → to.order ≡ order.now →
         GoesBackTo (newest_setting st o events) c to →
         TakesAway (newest_setting st o events) c to gone)) }
 {
-    let gone = taken_away(alloc, course, order)?;
+    let gone = taken_away(alloc, trace, order)?;
     let lost = list_behind(alloc, lost, &gone)?;
     Ok(lost)
 }
@@ -239,30 +239,30 @@ fn lost_behind<M: SavingMachine>(
 /// The machines of the next attempt from this base.
 fn machines_from<P: Program>(
     alloc: Global,
-    course: &Course<EngineSaver<P>>,
+    trace: &Trace<AnyMachine<P>>,
     graph: &Graph,
     program: P,
     base: &Base,
     places: &Places,
-) -> Result<Vec<EngineSaver<P>>, NoMemory>
-    requires places { ArePlacesOf graph.now (length course.now.now.machines.items) places.now }
+) -> Result<Vec<AnyMachine<P>>, NoMemory>
+    requires places { ArePlacesOf graph.now (length trace.now.now.machines.items) places.now }
     requires base { IsBaseFor graph.now base.now }
     requires graph { IsDataGraph graph.now }
     ensures many { IfOk result (λ machines.
-        length machines.items ≡ length course.now.now.machines.items) }
+        length machines.items ≡ length trace.now.now.machines.items) }
     ensures stand { IfOk result (λ machines.
-        InEachCourse (IsEngineSaverOf P.meaning) course.now (λ st o events c. (to : BaseView) →
+        InEachTrace (IsAnyMachineOf P.meaning) trace.now (λ st o events c. (to : BaseView) →
         IsRunAt graph.now (P.meaning program) places.now (newest_setting st o events) →
         IsBaseOf (newest_setting st o events) base.now to →
-        AreSaversOf P.meaning (newest_setting st o events) to c machines.items)) }
+        AreAnyMachinesOf P.meaning (newest_setting st o events) to c machines.items)) }
     ensures start { IfOk result (λ machines. (store : StoreView) → store.vertices ≡ size graph.now →
         store.edges ≡ length graph.now.edges → store.newest ≡ base.now.number →
         (st : Setting) × (to : BaseView) × (before : Cluster) ×
-        StartsSaving (IsEngineSaverOf P.meaning) machines.items places.now.run.engine store
-        course.now.now.next course.now.now.left st to before) }
+        StartsSaving (IsAnyMachineOf P.meaning) machines.items places.now.run.engine store
+        trace.now.now.next trace.now.now.left st to before) }
 {
-    let serials = serials(alloc, course)?;
-    let machines = placed_savers(alloc, graph, program, base, places, &serials)?;
+    let serials = serials(alloc, trace)?;
+    let machines = machines_of_attempt(alloc, graph, program, base, places, &serials)?;
     Ok(machines)
 }
 

@@ -2,7 +2,7 @@
 ghost use Rattle.std.specs.Prelude.{◌≡◌, ◌≤◌, ◌<◌, ◌+◌, ◌*◌, ◌^◌, ℕ, List, [], false, length, IfOk, OnOk};
 ghost use Rattle.cluster_laws.specs.cluster_model.Clusters.{BaseView, Cluster};
 ghost use Rattle.coordinator.specs.coord_core.Stores.{store_view};
-ghost use Rattle.engine_runs.specs.rollback.Returning.{ArePlacesOf, CallOpening, GoesBackSo, HasFailures, HasReachedSome, Header, IsBaseBehind, IsBaseFor, IsEngineSaverOf, IsKnownCourse, IsRunAt, Setting, StartsSaving};
+ghost use Rattle.engine_runs.specs.rollback.Returning.{ArePlacesOf, CallOpening, RestartsFrom, HasFailures, HasReachedSome, Header, IsBaseBehind, IsBaseFor, IsAnyMachineOf, IsKnownTrace, IsRunAt, Setting, StartsSaving};
 ghost use Rattle.engine_runs.specs.unstored.Inner.Going.{AreRestartsAlone};
 ghost use Rattle.gl_base.specs.declared.entries.Entry.{Entry};
 ghost use Rattle.graph_core.specs.DataGraph.{IsDataGraph, size};
@@ -12,11 +12,11 @@ ghost use Rattle.recovery.specs.Recovered.{IsHeaderOf};
 use crate::rollback::failing::fail_reached;
 use crate::rollback::next_attempts::{NextAttempt, attempt_from};
 use crate::rollback::reading::failures_now;
-use cluster_step::trace::{Course, SavingMachine, Store};
+use cluster_step::trace::{SavingMachine, Store, Trace};
 use gl_base::{Base, Entry, NoMemory};
 use graph_core::Graph;
 use placed_machines::Places;
-use placed_machines::engine_savers::EngineSaver;
+use placed_machines::any_machine::AnyMachine;
 use recovery::restarts::{Restarts, base_behind, missing_restarts};
 use recovery::start_base;
 use std::alloc::Global;
@@ -34,38 +34,38 @@ const MOST_BYTES: u64 = 4294967295;
 /// that the next attempt begins with. That order is the answer, and has nothing but restarts.
 pub(crate) fn go_back_to_start<P: Program>(
     alloc: Global,
-    course: &mut Course<EngineSaver<P>>,
+    trace: &mut Trace<AnyMachine<P>>,
     graph: &Graph,
     program: P,
     places: &Places,
     restarts: &mut Restarts,
     lost: &mut Vec<Entry>,
 ) -> Result<Vec<Entry>, NoMemory>
-    requires places { ArePlacesOf graph.now (length course.old.now.machines.items) places.now }
-    requires machines { length course.old.now.machines.items < 65535 }
-    requires failures { length course.old.failures ≤ 65536 }
+    requires places { ArePlacesOf graph.now (length trace.old.now.machines.items) places.now }
+    requires machines { length trace.old.now.machines.items < 65535 }
+    requires failures { length trace.old.failures ≤ 65536 }
     requires stored { restarts.old.stored.items ≡ [] }
     // In each setting of a run in which a machine has reached the count of a failure the run goes
     // on.
-    ensures back { course.old.now.stopped ≡ false →
+    ensures back { trace.old.now.stopped ≡ false →
         (header : Header) (order : List Entry) (st : Setting) (o : CallOpening) →
         IsHeaderOf graph.now header → IsRunAt graph.now (P.meaning program) places.now st →
-        (known : IsKnownCourse (IsEngineSaverOf P.meaning) course.old header [] [] lost.old.items
+        (known : IsKnownTrace (IsAnyMachineOf P.meaning) trace.old header [] [] lost.old.items
         restarts.old.stored.items restarts.old.front.items order st o) →
-        HasReachedSome course.old st known.was.cluster →
+        HasReachedSome trace.old st known.was.cluster →
         IfOk result (λ order.
-        IsKnownCourse (IsEngineSaverOf P.meaning) course.new header [] [] lost.new.items
+        IsKnownTrace (IsAnyMachineOf P.meaning) trace.new header [] [] lost.new.items
         restarts.new.stored.items restarts.new.front.items order.items st o) }
     ensures alone { IfOk result (λ order. AreRestartsAlone order.items) }
-    ensures runs { OnOk result (course.new.now.stopped ≡ false) }
-    ensures call { (course.new.start ≡ course.old.start) ×
-        (course.new.failures ≡ course.old.failures) ×
-        (length course.new.now.machines.items ≡ length course.old.now.machines.items) }
+    ensures runs { OnOk result (trace.new.now.stopped ≡ false) }
+    ensures call { (trace.new.start ≡ trace.old.start) ×
+        (trace.new.failures ≡ trace.old.failures) ×
+        (length trace.new.now.machines.items ≡ length trace.old.now.machines.items) }
     ensures stored { restarts.new.stored ≡ restarts.old.stored }
 {
-    fail_reached(course)?;
-    let next = attempt_at_start(alloc, course, graph, program, places, restarts, lost)?;
-    if let Err(NoMemory) = course.recover(alloc, next.machines, places.run.engine, next.store) {
+    fail_reached(trace)?;
+    let next = attempt_at_start(alloc, trace, graph, program, places, restarts, lost)?;
+    if let Err(NoMemory) = trace.recover(alloc, next.machines, places.run.engine, next.store) {
         drop(next.order);
         drop(next.front);
         drop(next.lost);
@@ -79,50 +79,50 @@ pub(crate) fn go_back_to_start<P: Program>(
 /// The next attempt, from the start.
 fn attempt_at_start<P: Program>(
     alloc: Global,
-    course: &Course<EngineSaver<P>>,
+    trace: &Trace<AnyMachine<P>>,
     graph: &Graph,
     program: P,
     places: &Places,
     restarts: &Restarts,
     lost: &[Entry],
 ) -> Result<NextAttempt<P>, NoMemory>
-    requires places { ArePlacesOf graph.now (length course.now.now.machines.items) places.now }
-    requires machines { length course.now.now.machines.items < 65535 }
-    requires failures { length course.now.failures ≤ 65536 }
+    requires places { ArePlacesOf graph.now (length trace.now.now.machines.items) places.now }
+    requires machines { length trace.now.now.machines.items < 65535 }
+    requires failures { length trace.now.failures ≤ 65536 }
     requires stored { restarts.now.stored.items ≡ [] }
     ensures start { IfOk result (λ next. (st : Setting) × (base : BaseView) × (before : Cluster) ×
-        StartsSaving (IsEngineSaverOf P.meaning) next.machines.items places.now.run.engine
-        (store_view next.store) course.now.now.next course.now.now.left st base before) }
+        StartsSaving (IsAnyMachineOf P.meaning) next.machines.items places.now.run.engine
+        (store_view next.store) trace.now.now.next trace.now.now.left st base before) }
     ensures many { IfOk result (λ next.
-        length next.machines.items ≡ length course.now.now.machines.items) }
+        length next.machines.items ≡ length trace.now.now.machines.items) }
     ensures newest { IfOk result (λ next. next.store.newest + 1 < 2 ^ 32) }
     ensures short { IfOk result (λ next. next.store.length < 2 ^ 32) }
     ensures alone { IfOk result (λ next. AreRestartsAlone next.order.items) }
     ensures back { (header : Header) (order : List Entry) (st : Setting) (o : CallOpening) →
         IsHeaderOf graph.now header → IsRunAt graph.now (P.meaning program) places.now st →
-        (known : IsKnownCourse (IsEngineSaverOf P.meaning) course.now header [] [] lost.now
+        (known : IsKnownTrace (IsAnyMachineOf P.meaning) trace.now header [] [] lost.now
         restarts.now.stored.items restarts.now.front.items order st o) →
-        HasFailures course.now st known.was.cluster →
+        HasFailures trace.now st known.was.cluster →
         IfOk result (λ next.
-        GoesBackSo P.meaning course.now next.machines.items places.now.run.engine
+        RestartsFrom P.meaning trace.now next.machines.items places.now.run.engine
         (store_view next.store) next.order.items lost.now next.lost.items restarts.now.front.items
         next.front.items st o known.was.events known.was.cluster) }
 {
-    let failures = failures_now(alloc, course)?;
+    let failures = failures_now(alloc, trace)?;
     let missing = missing_restarts(
         alloc,
         &restarts.stored,
         &restarts.front,
         failures,
-        course.next(),
+        trace.next(),
     )?;
     let Ok(base) = start_with(alloc, graph, &program, &missing) else {
         drop(missing);
         return Err(NoMemory);
     };
-    let store = no_store(course, graph, failures);
+    let store = no_store(trace, graph, failures);
     let Ok(next) = attempt_from(
-        alloc, course, graph, program, places, restarts, lost, base, &missing, store,
+        alloc, trace, graph, program, places, restarts, lost, base, &missing, store,
     ) else {
         drop(missing);
         return Err(NoMemory);
@@ -152,16 +152,16 @@ fn start_with<P: Program>(
 
 /// What the coordinator is told in place of a store, which it hasn't: no snapshot, and as many
 /// bytes as it counts with these failures.
-fn no_store<M: SavingMachine>(course: &Course<M>, graph: &Graph, failures: usize) -> Store
+fn no_store<M: SavingMachine>(trace: &Trace<M>, graph: &Graph, failures: usize) -> Store
     ensures newest { result.newest ≡ 0 }
     ensures vertices { result.vertices ≡ size graph.now }
     ensures graph { IsDataGraph graph.now }
     ensures edges { result.edges ≡ length graph.now.edges }
-    ensures place { course.now.now.coordinator.saving.store_end + 16 * failures < 2 ^ 32 →
-        result.length ≡ course.now.now.coordinator.saving.store_end + 16 * failures }
+    ensures place { trace.now.now.coordinator.saving.store_end + 16 * failures < 2 ^ 32 →
+        result.length ≡ trace.now.now.coordinator.saving.store_end + 16 * failures }
     ensures short { result.length < 2 ^ 32 }
 {
-    let length = course.coordinator().length();
+    let length = trace.coordinator().length();
     let needed = length.saturating_add(RESTART_BYTES.saturating_mul(failures as u64));
     Store {
         vertices: graph.n(),

@@ -3,7 +3,7 @@ ghost use Rattle.std.specs.Prelude.{◌≡◌, ◌+◌, ◌++◌, ◌∷◌, ◌
 ghost use Rattle.call_laws.specs.attempts.Entries.{is_restart};
 ghost use Rattle.gl_base.specs.declared.entries.Entry.TheVariants.{Restart};
 ghost use Rattle.engine_runs.specs.start.Starting.{restart_room};
-ghost use Rattle.engine_runs.specs.start.Inner.Openings.{IsBaseOpened, IsOpeningOf, IsWhyNoOpening};
+ghost use Rattle.engine_runs.specs.start.Inner.Openings.{IsBaseOpened, IsOpeningOf, OpeningErrorCause};
 ghost use Rattle.store.specs.declared.snap_journal.faults.JournalFault.TheVariants as fault;
 
 use crate::start::tickets::next_ticket;
@@ -38,7 +38,7 @@ pub(crate) fn opening_of(
 ) -> Result<Opening, JournalFault>
     ensures opening { IfOk result (IsOpeningOf resumed base) }
     ensures short { IfOk result (λ opening. opening.base.length < 2 ^ 32) }
-    ensures refused { IfErr result (IsWhyNoOpening stored base.length (restart_room resumed)) }
+    ensures refused { IfErr result (OpeningErrorCause stored base.length (restart_room resumed)) }
 {
     if let Err(full) = check_room(stored, base.length, resumed) {
         drop(base);

@@ -1,18 +1,18 @@
 //! A call starts.
 ghost use Rattle.std.specs.Prelude.{◌≡◌, ◌<◌, ◌≤◌, false, length, IfErr, IfOk, IsTrue};
-ghost use Rattle.engine_runs.specs.start.Starting.{AreJobFailures, ArePlacedFor, Begins, CanBeCut, HasStarted, IsGoodStore, IsHeaderOf, IsInRange, IsRunAt, IsWhyNotStarted, Setting, opening_from, restart_room, run_shared, shared_of, snapshots_in};
+ghost use Rattle.engine_runs.specs.start.Starting.{AreJobFailures, ArePlacedFor, Begins, CanBeCut, HasStarted, IsGoodStore, IsHeaderOf, IsInRange, IsRunAt, StartErrorCause, Setting, opening_from, restart_room, run_shared, shared_of, snapshots_in};
 
 use crate::answers::StoredPlan;
-use crate::start::courses::course_of;
 use crate::start::openings::{Opening, opening_of};
 use crate::start::placing::places_of;
-use cluster_step::trace::Course;
+use crate::start::traces::trace_of;
+use cluster_step::trace::Trace;
 use gl_base::{Entry, FailureAt};
 use gl_outside::Disk;
 use graph_atoms::atom_gather::Cut;
 use graph_core::Graph;
 use placed_machines::Places;
-use placed_machines::engine_savers::EngineSaver;
+use placed_machines::any_machine::AnyMachine;
 use recovery::recover;
 use recovery::restarts::Restarts;
 use std::alloc::Global;
@@ -23,7 +23,7 @@ use update_api::Program;
 /// attempt begins, and the restarts of the store's last order and of that one.
 #[derive(Drop)]
 pub struct Started<P: Program> {
-    pub course: Course<EngineSaver<P>>,
+    pub trace: Trace<AnyMachine<P>>,
     pub places: Places,
     pub order: Vec<Entry>,
     pub restarts: Restarts,
@@ -55,7 +55,7 @@ pub fn start_call<D: Disk, P: Program>(
 
     // In each setting of the run in which the store is good the call has opened from it, and the
     // store keeps up.
-    ensures started { IsTrue D.told →
+    ensures started { IsTrue D.observable →
         IfOk result (λ started. (st : Setting) →
         IsRunAt graph.now (P.meaning program) started.places st →
         IsGoodStore (shared_of st failures.now) journal.old.header
@@ -69,19 +69,19 @@ pub fn start_call<D: Disk, P: Program>(
         started.places failures.now)) }
 
     ensures places { IfOk result (λ started. ArePlacedFor graph.now cut.now plan started.places) }
-    ensures failures { IfOk result (λ started. started.course.failures ≡ failures.now) }
+    ensures failures { IfOk result (λ started. started.trace.failures ≡ failures.now) }
     ensures machines { IfOk result (λ started.
-        length started.course.now.machines.items ≡ plan.run.machines) }
-    ensures runs { IfOk result (λ started. started.course.now.stopped ≡ false) }
+        length started.trace.now.machines.items ≡ plan.run.machines) }
+    ensures runs { IfOk result (λ started. started.trace.now.stopped ≡ false) }
     ensures restarts { IfOk result (λ started.
         Begins started.restarts.stored.items started.restarts.front.items) }
 
     ensures refused { IfErr result
-        (IsWhyNotStarted D.past (IsTrue D.told) (restart_room resumed) journal.old journal.new
+        (StartErrorCause D.past (IsTrue D.observable) (restart_room resumed) journal.old journal.new
         (D.faults journal.old.disk) (D.faults journal.new.disk)) }
     ensures well { IfOk result (λ started. (journal.old.failed ≡ false) ×
         (journal.new.failed ≡ false)) }
-    ensures past { IsTrue D.told → D.past journal.new.disk ≡ D.past journal.old.disk }
+    ensures past { IsTrue D.observable → D.past journal.new.disk ≡ D.past journal.old.disk }
     ensures kept { journal.new ≡ record journal.old {
       disk = journal.new.disk;
       failed = journal.new.failed;
@@ -96,7 +96,7 @@ pub fn start_call<D: Disk, P: Program>(
         drop(opening);
         return Err(JournalFault::NoMemory);
     };
-    let Ok(course) = course_of(
+    let Ok(trace) = trace_of(
         alloc,
         graph,
         program,
@@ -111,7 +111,7 @@ pub fn start_call<D: Disk, P: Program>(
     };
     let Opening { base, restarts, .. } = opening;
     Ok(Started {
-        course,
+        trace,
         places,
         order: base.order,
         restarts,

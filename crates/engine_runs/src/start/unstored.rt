@@ -6,10 +6,10 @@ ghost use Rattle.recovery.specs.Recovered.{IsStartBase};
 ghost use Rattle.store.specs.declared.store_format.header.Header.{Header};
 
 use crate::answers::StoredPlan;
-use crate::start::courses::course_of;
 use crate::start::openings::Opening;
 use crate::start::placing::places_of;
 use crate::start::starting::Started;
+use crate::start::traces::trace_of;
 use gl_base::{FailureAt, NoMemory};
 use graph_atoms::atom_gather::Cut;
 use graph_core::Graph;
@@ -40,10 +40,10 @@ pub(crate) fn start_unstored<P: Program>(
         HasStarted P.meaning started header [] false plan.run.budget st) }
     ensures graph { IfOk result (λ started. IsDataGraph graph.now) }
     ensures places { IfOk result (λ started. ArePlacedFor graph.now cut.now plan started.places) }
-    ensures failures { IfOk result (λ started. started.course.failures ≡ failures.now) }
+    ensures failures { IfOk result (λ started. started.trace.failures ≡ failures.now) }
     ensures machines { IfOk result (λ started.
-        length started.course.now.machines.items ≡ plan.run.machines) }
-    ensures runs { IfOk result (λ started. started.course.now.stopped ≡ false) }
+        length started.trace.now.machines.items ≡ plan.run.machines) }
+    ensures runs { IfOk result (λ started. started.trace.now.stopped ≡ false) }
     ensures stored { IfOk result (λ started. started.restarts.stored.items ≡ []) }
     ensures order { IfOk result (λ started. started.order.items ≡ []) }
 {
@@ -52,7 +52,7 @@ pub(crate) fn start_unstored<P: Program>(
         drop(opening);
         return Err(NoMemory);
     };
-    let Ok(course) = course_of(
+    let Ok(trace) = trace_of(
         alloc,
         graph,
         program,
@@ -67,7 +67,7 @@ pub(crate) fn start_unstored<P: Program>(
     };
     let Opening { base, restarts, .. } = opening;
     Ok(Started {
-        course,
+        trace,
         places,
         order: base.order,
         restarts,

@@ -115,7 +115,7 @@ fn begin<P: Program>(
         HasBegunUnstored P.meaning call header plan.run.budget st) }
     ensures graph { IfOk result (λ call. IsDataGraph graph.now) }
     ensures places { IfOk result (λ call. ArePlacedFor graph.now cut.now plan call.places) }
-    ensures failures { IfOk result (λ call. call.course.failures ≡ failures.now) }
+    ensures failures { IfOk result (λ call. call.trace.failures ≡ failures.now) }
 {
     let started = start_unstored(alloc, graph, program, cut, plan, failures)?;
     Ok(call_of(alloc, started, false))

@@ -1,6 +1,6 @@
 //! A call without a store goes on, pause by pause, until it ends.
 ghost use Rattle.std.specs.Prelude.{List, ◌≡◌, ℕ, IfOk, IfSome, OnOk};
-ghost use Rattle.engine_runs.specs.unstored.Inner.Going.{CallOpening, CanGoOnUnstored, EndsCallUnstored, GoesOnUnstored, Header, IsEngineSaverOf, IsKnownAt, IsSameCall, PausesUnsaved, Setting};
+ghost use Rattle.engine_runs.specs.unstored.Inner.Going.{CallOpening, CanGoOnUnstored, EndsCallUnstored, GoesOnUnstored, Header, IsAnyMachineOf, IsKnownAt, IsSameCall, PausesUnsaved, Setting};
 ghost use Rattle.gl_base.specs.declared.numbers.MachineNo.{MachineNo};
 
 use crate::answers::StoredEnd;
@@ -55,7 +55,7 @@ fn step<R: Wait, P: Program>(
             Ok(None)
         }
         UnsavedPause::Quiet => Ok(Some(StoredEnd::Finished)),
-        UnsavedPause::Spent => Ok(Some(StoredEnd::Spent(task_left(&call.course)))),
+        UnsavedPause::Spent => Ok(Some(StoredEnd::Spent(task_left(&call.trace)))),
     }
 }
 
@@ -63,16 +63,16 @@ fn step<R: Wait, P: Program>(
 fn go_on<R: Wait, P: Program>(rt: &R, call: &mut StoredCall<P>) -> Result<UnsavedPause, NoMemory>
     ensures known { (header : Header) (start bodies : List (List ℕ))
         (st : Setting) (o : CallOpening) →
-        IsKnownAt P.meaning call.old.course call.old header start bodies st o →
-        IsKnownAt P.meaning call.new.course call.new header start bodies st o }
-    ensures pause { IfOk result (PausesUnsaved (IsEngineSaverOf P.meaning) call.new.course) }
-    ensures same { call.new ≡ record call.old { course = call.new.course } }
+        IsKnownAt P.meaning call.old.trace call.old header start bodies st o →
+        IsKnownAt P.meaning call.new.trace call.new header start bodies st o }
+    ensures pause { IfOk result (PausesUnsaved (IsAnyMachineOf P.meaning) call.new.trace) }
+    ensures same { call.new ≡ record call.old { trace = call.new.trace } }
     ensures attempt { IsSameCall call.old call.new }
 {
-    call.course.remember();
-    let pause = drive_unsaved(rt, &mut call.course);
+    call.trace.remember();
+    let pause = drive_unsaved(rt, &mut call.trace);
     // The reader tells that no snapshot was acknowledged since, and that no attempt began.
-    let _machines = call.course.machines();
+    let _machines = call.trace.machines();
     pause
 }
 
@@ -85,13 +85,13 @@ fn go_back_from<P: Program>(
 ) -> Result<(), NoMemory>
     requires can { CanGoOnUnstored graph.now call.old }
     requires reached { (m : MachineNo) ×
-        PausesUnsaved (IsEngineSaverOf P.meaning) call.old.course (UnsavedPause.Reached m) }
+        PausesUnsaved (IsAnyMachineOf P.meaning) call.old.trace (UnsavedPause.Reached m) }
     ensures { OnOk result
         (GoesOnUnstored P.meaning graph.now (P.meaning program) call.old call.new) }
 {
     let order = go_back_to_start(
         alloc,
-        &mut call.course,
+        &mut call.trace,
         graph,
         program,
         &call.places,

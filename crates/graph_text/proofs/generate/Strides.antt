@@ -5,7 +5,7 @@ use Rattle.std.proofs.Math.Nat.{dvd-mod_iff, dvd-mul_left_of_dvd, dvd-mul_left, 
 use Rattle.std.proofs.lemmas.Nat.Gcd.{IsGcd-from_sub, IsGcd-from_zero, same_from_IsGcd}
 use Rattle.std.proofs.lemmas.Bool.{cases_eq, cases_lt}
 use Rattle.gl_base.specs.declared.jobs.MakePlan.{MakePlan}
-use Rattle.graph_text.specs.generate.Making.{IsPlanInRange, IsStep, IsStride, HaveSameEnds, edge_from, edge_to, offset_count, offset}
+use Rattle.graph_text.specs.generate.Making.{IsPlanInRange, IsStep, IsStride, HaveSameEnds, edge_from, edge_to, offset_count, neighbour_offset}
 
 one_divides : (n : ℕ) → 1 ∣ n
 one_divides n = dvd_of_mod-eq-zero 1 (omega arith)
@@ -75,7 +75,7 @@ remainders_apart number s h i j gcd order inside same =
     omega (arith, low, order, inside)
 
 -- offsets are apart
-pub offsets_apart : (number half stride i j : ℕ) → IsStride half stride → i < half → j < half → i ≢ j → offset number half stride i ≢ offset number half stride j
+pub offsets_apart : (number half stride i j : ℕ) → IsStride half stride → i < half → j < half → i ≢ j → neighbour_offset number half stride i ≢ neighbour_offset number half stride j
 offsets_apart number half stride i j is i_in j_in apart same =
     let equal : (number + i * stride) % half ≡ (number + j * stride) % half = omega (arith, same) in
     elim (cases_lt i j) [
@@ -84,7 +84,7 @@ offsets_apart number half stride i j is i_in j_in apart same =
     ]
 
 -- and below half of the vertices
-pub offset_small : (number vertices stride k : ℕ) → 0 < offset_count vertices → (1 ≤ offset number (offset_count vertices) stride k) × (offset number (offset_count vertices) stride k * 2 < vertices)
+pub offset_small : (number vertices stride k : ℕ) → 0 < offset_count vertices → (1 ≤ neighbour_offset number (offset_count vertices) stride k) × (neighbour_offset number (offset_count vertices) stride k * 2 < vertices)
 offset_small number vertices stride k some =
     let low : (number + k * stride) % offset_count vertices < offset_count vertices = omega (arith, some) in
     (omega arith, omega (arith, low, some))
@@ -149,16 +149,16 @@ stands plan i ranges inside =
     let some = positive plan.vertices (offset_count plan.vertices) plan.edges i inside ranges.offsets in
     record { vertices = some.0; offsets = some.1; turn = turn_below plan.vertices (offset_count plan.vertices) plan.edges i some.0 inside ranges.offsets }
 
-edge_wraps : (plan : MakePlan) (stride i : ℕ) → Stands plan i → Wraps (edge_from plan i) (offset plan.number (offset_count plan.vertices) stride (i / plan.vertices)) plan.vertices (edge_to plan stride i)
+edge_wraps : (plan : MakePlan) (stride i : ℕ) → Stands plan i → Wraps (edge_from plan i) (neighbour_offset plan.number (offset_count plan.vertices) stride (i / plan.vertices)) plan.vertices (edge_to plan stride i)
 edge_wraps plan stride i s =
     let small = offset_small plan.number plan.vertices stride (i / plan.vertices) s.offsets in
-    wraps (edge_from plan i) (offset plan.number (offset_count plan.vertices) stride (i / plan.vertices)) plan.vertices (omega (arith, s.vertices)) (omega (arith, small.1))
+    wraps (edge_from plan i) (neighbour_offset plan.number (offset_count plan.vertices) stride (i / plan.vertices)) plan.vertices (omega (arith, s.vertices)) (omega (arith, small.1))
 
 pub no_loop : (plan : MakePlan) (stride i : ℕ) → IsPlanInRange plan → i < plan.edges → edge_from plan i ≢ edge_to plan stride i
 no_loop plan stride i ranges inside =
     let s = stands plan i ranges inside in
     let small = offset_small plan.number plan.vertices stride (i / plan.vertices) s.offsets in
-    step_is_no_loop (edge_from plan i) (offset plan.number (offset_count plan.vertices) stride (i / plan.vertices)) plan.vertices (edge_to plan stride i) small.0 (omega (arith, small.1)) (edge_wraps plan stride i s)
+    step_is_no_loop (edge_from plan i) (neighbour_offset plan.number (offset_count plan.vertices) stride (i / plan.vertices)) plan.vertices (edge_to plan stride i) small.0 (omega (arith, small.1)) (edge_wraps plan stride i s)
 
 same_index : (n i j : ℕ) → i % n ≡ j % n → i / n ≡ j / n → i ≡ j
 same_index n i j low high =
@@ -174,7 +174,7 @@ no_double plan stride i j ranges is i_in j_in apart (inl same) =
     let h = offset_count plan.vertices in
     let d = offset_small plan.number plan.vertices stride (i / plan.vertices) s.offsets in
     let e = offset_small plan.number plan.vertices stride (j / plan.vertices) t.offsets in
-    let steps = same_steps (edge_from plan i) (edge_from plan j) (offset plan.number h stride (i / plan.vertices)) (offset plan.number h stride (j / plan.vertices)) plan.vertices (edge_to plan stride i) (edge_to plan stride j)
+    let steps = same_steps (edge_from plan i) (edge_from plan j) (neighbour_offset plan.number h stride (i / plan.vertices)) (neighbour_offset plan.number h stride (j / plan.vertices)) plan.vertices (edge_to plan stride i) (edge_to plan stride j)
     (omega (arith, d.1)) (omega (arith, e.1)) (edge_wraps plan stride i s) (edge_wraps plan stride j t) same.0 same.1 in
     elim (cases_eq (i / plan.vertices) (j / plan.vertices)) [
       | inl turn ↦ apart (same_index plan.vertices i j same.0 turn)
@@ -186,5 +186,5 @@ no_double plan stride i j ranges is i_in j_in apart (inr back) =
     let h = offset_count plan.vertices in
     let d = offset_small plan.number plan.vertices stride (i / plan.vertices) s.offsets in
     let e = offset_small plan.number plan.vertices stride (j / plan.vertices) t.offsets in
-    no_way_back (edge_from plan i) (edge_from plan j) (offset plan.number h stride (i / plan.vertices)) (offset plan.number h stride (j / plan.vertices)) plan.vertices (edge_to plan stride i) (edge_to plan stride j)
+    no_way_back (edge_from plan i) (edge_from plan j) (neighbour_offset plan.number h stride (i / plan.vertices)) (neighbour_offset plan.number h stride (j / plan.vertices)) plan.vertices (edge_to plan stride i) (edge_to plan stride j)
     d.0 e.0 d.1 e.1 (edge_wraps plan stride i s) (edge_wraps plan stride j t) back.0 back.1

@@ -29,15 +29,15 @@ pub record IsStride (half t : ℕ) : Type 0 where
   pub least : (u : ℕ) → IsStep half u → t ≤ u
 
 -- how much further on the other end of an edge stands, for the k-th edge of a vertex
-abbrev pub offset : ℕ → ℕ → ℕ → ℕ → ℕ
-offset number half stride k = 1 + (number + k * stride) % half
+abbrev pub neighbour_offset : ℕ → ℕ → ℕ → ℕ → ℕ
+neighbour_offset number half stride k = 1 + (number + k * stride) % half
 
 -- the ends of edge i
 abbrev pub edge_from : MakePlan → ℕ → ℕ
 edge_from plan i = i % plan.vertices
 
 abbrev pub edge_to : MakePlan → ℕ → ℕ → ℕ
-edge_to plan stride i = (edge_from plan i + offset plan.number (offset_count plan.vertices) stride (i / plan.vertices)) % plan.vertices
+edge_to plan stride i = (edge_from plan i + neighbour_offset plan.number (offset_count plan.vertices) stride (i / plan.vertices)) % plan.vertices
 
 -- two edges have the same ends, either way round
 abbrev pub HaveSameEnds : MakePlan → ℕ → ℕ → ℕ → Type 0

@@ -3,7 +3,7 @@ ghost use Rattle.std.specs.Prelude.{◌≡◌, ◌≢◌, ℕ, ◌*◌, ◌<◌,
 ghost use Rattle.gl_base.specs.declared.jobs.MakePlan.{MakePlan};
 ghost use Rattle.graph_core.specs.DataGraph.{DataGraph};
 ghost use Rattle.graph_text.specs.Edges.{edges_of};
-ghost use Rattle.graph_text.specs.generate.Making.{IsPlanInRange, IsStride, HasWeights, HaveSameEnds, edge_from, edge_to, offset_count, made_edges, made_ids, made_list, made_vertices, offset};
+ghost use Rattle.graph_text.specs.generate.Making.{IsPlanInRange, IsStride, HasWeights, HaveSameEnds, edge_from, edge_to, offset_count, made_edges, made_ids, made_list, made_vertices, neighbour_offset};
 ghost use Rattle.graph_text.specs.GraphTexts.{ListsIds, DescribeGraph};
 
 /// There is one stride.
@@ -15,12 +15,12 @@ pub fn strides_are_unique()
 pub fn offsets_are_apart()
     ensures apart { (number vertices stride i j : ℕ) → IsStride (offset_count vertices) stride →
         i < offset_count vertices → j < offset_count vertices → i ≢ j →
-        offset number (offset_count vertices) stride i ≢ offset number
+        neighbour_offset number (offset_count vertices) stride i ≢ neighbour_offset number
         (offset_count vertices) stride j }
     ensures some { (number vertices stride k : ℕ) →
-        1 ≤ offset number (offset_count vertices) stride k }
+        1 ≤ neighbour_offset number (offset_count vertices) stride k }
     ensures small { (number vertices stride k : ℕ) → 0 < offset_count vertices →
-        offset number (offset_count vertices) stride k * 2 < vertices }
+        neighbour_offset number (offset_count vertices) stride k * 2 < vertices }
 {}
 
 /// No edge joins a vertex to itself, and no two have the same ends, either way round.

@@ -134,8 +134,8 @@ fn ends_of(plan: &MakePlan, stride: u64, edge: u32) -> (u32, u32)
 {
     let from = edge % plan.vertices;
     let turn = u64::from(edge / plan.vertices);
-    let offset = 1 + (u64::from(plan.number) + turn * stride) % half(plan.vertices);
-    let to = (u64::from(from) + offset) % u64::from(plan.vertices);
+    let neighbour_offset = 1 + (u64::from(plan.number) + turn * stride) % half(plan.vertices);
+    let to = (u64::from(from) + neighbour_offset) % u64::from(plan.vertices);
     (from, to as u32)
 }
 

@@ -19,10 +19,10 @@ use Rattle.graph_atoms.specs.declared.atom_gather.cuts.Cut.{Cut}
 use Rattle.graph_atoms.specs.declared.atom_gather.cuts.Cut.TheVariants.{Grown, Told}
 use Rattle.gl_base.specs.declared.numbers.AtomNo.{AtomNo}
 use Rattle.job_io.specs.whole_files.AtomNames.{atom_name, index_name}
-use Rattle.job_io.specs.whole_files.FilesUsed.{HandsOver, ReadsFiles}
+use Rattle.job_io.specs.whole_files.FilesUsed.{OpensInOrder, ReadsFiles}
 use Rattle.job_io.specs.whole_files.InTurn.{first_names}
 use Rattle.job_io.proofs.whole_files.FilesCreated.{gives-before}
-use Rattle.job_io.proofs.whole_files.NamesHanded.{HandsOver-then}
+use Rattle.job_io.proofs.whole_files.NamesHanded.{OpensInOrder-then}
 use Rattle.job_io.proofs.whole_files.TextsRead.{reads-after, reads-more}
 use Rattle.job_io.specs.declared.job_files.inputs.NoInput.{NoInput}
 use Rattle.job_io.specs.declared.job_files.inputs.NoInput.TheVariants as why
@@ -175,13 +175,13 @@ reads-atoms old mid new prefix opened index atoms is count formed first handed t
     given = given_bytes old (index_name prefix)
 
     go : (names : Option (List (List ℕ))) → IfSome names (λ told. (index ≡ given) × (index_form given ≡ None)) → AppendsNames names mid.sources.names (opened ∷ [])
-        → HandsOver names new.sources.names (index_name prefix ∷ first_names (atom_name prefix) (atoms_of_index given))
+        → OpensInOrder names new.sources.names (index_name prefix ∷ first_names (atom_name prefix) (atoms_of_index given))
     go None formed noted = (0, tt)
     go (Some told) formed noted =
         let number : atoms ≡ atoms_of_index given = count ∙ ap atoms_in formed.0 ∙ sym (ap (λ (o : Option AtomsFault). unless_fault o (atoms_in given)) formed.1) in
-        let rest : HandsOver mid.sources.names new.sources.names (first_names (atom_name prefix) (atoms_of_index given)) =
-        subst (λ (n : ℕ). HandsOver mid.sources.names new.sources.names (first_names (atom_name prefix) n)) number then.handed in
-        HandsOver-then (Some told) mid.sources.names new.sources.names opened (index_name prefix) (first_names (atom_name prefix) (atoms_of_index given)) is noted rest
+        let rest : OpensInOrder mid.sources.names new.sources.names (first_names (atom_name prefix) (atoms_of_index given)) =
+        subst (λ (n : ℕ). OpensInOrder mid.sources.names new.sources.names (first_names (atom_name prefix) n)) number then.handed in
+        OpensInOrder-then (Some told) mid.sources.names new.sources.names opened (index_name prefix) (first_names (atom_name prefix) (atoms_of_index given)) is noted rest
 
 -- What holds of files that are read later holds of what their names gave.
 finds-before : (old mid : FilesState) (names : List (List ℕ)) (prefix : List ℕ) (g : DataGraph) (fault : Option AtomsFault) → ChangesSources old mid → AppendsNames old.sources.names mid.sources.names names

@@ -16,7 +16,7 @@ use Rattle.graph_text.specs.declared.lists.Reading.TheVariants as reading
 use Rattle.job_io.specs.job_config.Fields.{JobFields}
 use Rattle.job_io.specs.job_config.Jobs.{JobSayings}
 use Rattle.job_io.specs.job_config.Views.{job_view}
-use Rattle.job_io.specs.whole_files.FilesUsed.{HandsOver}
+use Rattle.job_io.specs.whole_files.FilesUsed.{OpensInOrder}
 use Rattle.job_io.proofs.whole_files.NamesHanded.{AppendsNames-trans}
 use Rattle.job_io.proofs.whole_files.TextsRead.{OfRead-two, text-before}
 use Rattle.job_io.specs.declared.job_files.inputs.Input.{Input}
@@ -32,7 +32,7 @@ use Rattle.job_io.specs.job_files.Inner.Graphs.{TakesGraph}
 use Rattle.job_io.specs.job_files.Inner.Jobs.{TakesJob}
 use Rattle.job_io.specs.job_files.Inputs.{IsInput, IsInputFrom, IsRunInput, RefusesEarly}
 use Rattle.job_io.specs.job_files.JobTexts.{DescribeJobGraph, HasStart, LacksSource, LacksStart, OfTexts, RefusesEdges, SaysJob}
-use Rattle.job_io.specs.job_files.NamesRead.{HandsForRun, atoms_names, edges_after, graph_names, names_of}
+use Rattle.job_io.specs.job_files.NamesRead.{RunOpens, atoms_names, edges_after, graph_names, names_of}
 use Rattle.job_io.proofs.job_files.GraphTexts.{texts-before}
 
 -- the job's file was not read, or says no job that the verb can do
@@ -60,8 +60,8 @@ names-before files mid job frame =
     ap (λ (c : List ℕ → Option (List ℕ)). job.vertices ∷ edges_after (c job.vertices) job.edges) (ap (λ (s : FilesState). s.contents) frame)
 
 pub graph-names-before : (files mid : FilesState) (now : Option (List (List ℕ))) (job : JobFields) → ChangesSources files mid
-    → HandsOver mid.sources.names now (graph_names mid job) → HandsOver mid.sources.names now (graph_names files job)
-graph-names-before files mid now job frame hands = subst (HandsOver mid.sources.names now) (names-before files mid job frame) hands
+    → OpensInOrder mid.sources.names now (graph_names mid job) → OpensInOrder mid.sources.names now (graph_names files job)
+graph-names-before files mid now job frame hands = subst (OpensInOrder mid.sources.names now) (names-before files mid job frame) hands
 
 pub graph-handed-before : (files mid : FilesState) (now : Option (List (List ℕ))) (job : JobFields) → ChangesSources files mid
     → AppendsNames mid.sources.names now (graph_names mid job) → AppendsNames mid.sources.names now (graph_names files job)
@@ -144,22 +144,22 @@ run-refused asked files now file input cause is takes = go input.job.atoms_at re
     go (Some prefix) named takes = refused prefix cause named takes
 
 -- names that are handed on behind others
-hands-behind : (a b c : Option (List (List ℕ))) (xs ys : List (List ℕ)) → AppendsNames a b xs → HandsOver b c ys → HandsOver a c (xs ++ ys)
+hands-behind : (a b c : Option (List (List ℕ))) (xs ys : List (List ℕ)) → AppendsNames a b xs → OpensInOrder b c ys → OpensInOrder a c (xs ++ ys)
 hands-behind a b c xs ys first (k, then) =
     (length xs + k, subst (AppendsNames a c) (sym (take-append-add xs ys k)) (AppendsNames-trans a b c xs (take k ys) first then))
 
-hands-nothing : (a b c : Option (List (List ℕ))) (xs : List (List ℕ)) → AppendsNames a b xs → HandsOver b c [] → HandsOver a c xs
-hands-nothing a b c xs first then = subst (HandsOver a c) (append-nil xs) (hands-behind a b c xs [] first then)
+hands-nothing : (a b c : Option (List (List ℕ))) (xs : List (List ℕ)) → AppendsNames a b xs → OpensInOrder b c [] → OpensInOrder a c xs
+hands-nothing a b c xs first then = subst (OpensInOrder a c) (append-nil xs) (hands-behind a b c xs [] first then)
 
 -- the names of a run's files, where its atoms were looked at, if it has a prefix
 pub hands-for-run : (asked : JobVerb) (old mid new : FilesState) (file : List ℕ) (input : Input) → IsInputFrom asked old file input
-    → AppendsNames old.sources.names mid.sources.names (names_of asked old file) → HandsOver mid.sources.names new.sources.names (named_atoms old input.job.atoms_at) → HandsForRun asked old new file
+    → AppendsNames old.sources.names mid.sources.names (names_of asked old file) → OpensInOrder mid.sources.names new.sources.names (named_atoms old input.job.atoms_at) → RunOpens asked old new file
 hands-for-run asked old mid new file input is first then = go input.job.atoms_at refl then
   where
     job : JobSayings
     job = job_view input.job
 
-    go : (named : Option (List ℕ)) → input.job.atoms_at ≡ named → HandsOver mid.sources.names new.sources.names (named_atoms old named) → HandsForRun asked old new file
+    go : (named : Option (List ℕ)) → input.job.atoms_at ≡ named → OpensInOrder mid.sources.names new.sources.names (named_atoms old named) → RunOpens asked old new file
     go None named then = inl (hands-nothing old.sources.names mid.sources.names new.sources.names (names_of asked old file) first then)
     go (Some prefix) named then = inr (
       job,
@@ -173,7 +173,7 @@ hands-for-run asked old mid new file input is first then = go input.job.atoms_at
     )
 
 -- the job or its graph was refused
-pub refuses-early : (asked : JobVerb) (old new : FilesState) (now : ℕ) (file : List ℕ) (cause : NoInput) → HandsOver old.sources.names new.sources.names (names_of asked old file)
+pub refuses-early : (asked : JobVerb) (old new : FilesState) (now : ℕ) (file : List ℕ) (cause : NoInput) → OpensInOrder old.sources.names new.sources.names (names_of asked old file)
     → RefusesEarly asked file old new (let r : Result Input NoInput = Err cause in r)
 refuses-early asked old new now file (why.BadJob fault) hands = hands
 refuses-early asked old new now file (why.BadGraph fault) hands = hands

@@ -15,11 +15,11 @@ use Rattle.gl_outside.specs.declared.files.OpenFault.{OpenFault}
 use Rattle.gl_outside.specs.declared.files.OpenFault.TheVariants as open_fault
 use Rattle.gl_outside.specs.Faults.{Rose}
 use Rattle.gl_outside.proofs.Fronts.{Rose-later}
-use Rattle.job_io.proofs.whole_files.NamesHanded.{HandsOver-refused}
-use Rattle.job_io.specs.declared.job_stores.making.NoStore.{NoStore}
-use Rattle.job_io.specs.declared.job_stores.making.NoStore.TheVariants as no
+use Rattle.job_io.proofs.whole_files.NamesHanded.{OpensInOrder-refused}
+use Rattle.job_io.specs.declared.job_stores.making.StoreError.{StoreError}
+use Rattle.job_io.specs.declared.job_stores.making.StoreError.TheVariants as no
 use Rattle.job_io.specs.job_stores.Inner.Making.{IsRefusedBy, no_store_of}
-use Rattle.job_io.specs.job_stores.NewStores.{ChangesDisks, HasBytes, IfDisksTold, IsWhyNoStore, KeepsFilledDisks, UsesDisk}
+use Rattle.job_io.specs.job_stores.NewStores.{ChangesDisks, HasBytes, IfDisksTold, MakeStoreErrorCause, KeepsFilledDisks, UsesDisk}
 
 -- the last file of those that are open
 is_last : {X : Type 0} (xs now : List X) (x d : X) (number : ℕ) → number ≡ length xs → now ≡ xs ++ x ∷ [] → IsTrue (nat_lt number (length now)) × (get_or now number d ≡ x)
@@ -120,7 +120,7 @@ pub unused-disk : (old new : FilesState) (name : List ℕ) (fault : OpenFault) �
 unused-disk old new name fault opens notes later =
     record {
       frame = opens_disks old new name (Err fault) opens;
-      handed = HandsOver-refused old.disks.names new.disks.names name fault notes;
+      handed = OpensInOrder-refused old.disks.names new.disks.names name fault notes;
       others = λ other apart. ap (λ (s : FilesState). s.pasts other) opens;
       later = later;
     }
@@ -170,7 +170,7 @@ module _ (old mid was last new : FilesState) (name : List ℕ) (file : FileNo) (
   made-at-end (Ok done) told P holds = told-at-end told P holds
   made-at-end (Err fault) told P holds = tt
 
-  why-at-end : (told : Bool) (why : NoStore) → old.disks.faults ≤ mid.disks.faults → IsRefusedBy (IsTrue told) (disk_past was own) was.disks.faults last.disks.faults why → IsWhyNoStore told name old new why
+  why-at-end : (told : Bool) (why : StoreError) → old.disks.faults ≤ mid.disks.faults → IsRefusedBy (IsTrue told) (disk_past was own) was.disks.faults last.disks.faults why → MakeStoreErrorCause told name old new why
   why-at-end told (no.BadStore fault) first refused = told-at-end told (λ p q. HasBytes p fault) refused
   why-at-end told no.DiskFault first rose =
       let before : old.disks.faults ≤ was.disks.faults = omega (arith, first, ap (λ (s : FilesState). s.disks.faults) was_is) in
@@ -178,13 +178,13 @@ module _ (old mid was last new : FilesState) (name : List ℕ) (file : FileNo) (
       subst R (sym new_is) (Rose-later old.disks.faults was.disks.faults last.disks.faults before rose)
   why-at-end told no.NoMemory first refused = absurd refused
 
-  pub refused-at-end : (r : Result (Unit {0}) NoStore) (told : Bool) → old.disks.faults ≤ mid.disks.faults → IfErr r (IsRefusedBy (IsTrue told) (disk_past was own) was.disks.faults last.disks.faults)
-      → IfErr r (IsWhyNoStore told name old new)
+  pub refused-at-end : (r : Result (Unit {0}) StoreError) (told : Bool) → old.disks.faults ≤ mid.disks.faults → IfErr r (IsRefusedBy (IsTrue told) (disk_past was own) was.disks.faults last.disks.faults)
+      → IfErr r (MakeStoreErrorCause told name old new)
   refused-at-end (Ok done) told first refused = tt
   refused-at-end (Err why) told first refused = why-at-end told why first refused
 
 -- why no store was made where the file was not opened
 pub why-unopened : (told : Bool) (old new : FilesState) (name : List ℕ) (fault : OpenFault) → OpensDisk old new name (Err fault)
-    → ((let r : Result FileNo OpenFault = Err fault in r) ≡ Err open_fault.Failed → Rose old.disks.faults new.disks.faults) → IsWhyNoStore told name old new (no_store_of fault)
+    → ((let r : Result FileNo OpenFault = Err fault in r) ≡ Err open_fault.Failed → Rose old.disks.faults new.disks.faults) → MakeStoreErrorCause told name old new (no_store_of fault)
 why-unopened told old new name open_fault.Failed opens failed = failed refl
 why-unopened told old new name open_fault.NoMemory opens failed = ap (λ (s : FilesState). s.pasts) opens

@@ -10,7 +10,7 @@ use Rattle.gl_outside.specs.declared.files.FileNo.{FileNo}
 use Rattle.gl_outside.specs.Frames.{OpensSink, WritesOnly}
 use Rattle.gl_outside.specs.Inner.Laws.{name_kept}
 use Rattle.gl_outside.proofs.Opening.{ChangesSinks-trans, opens_sinks, others_stay, sink_opened, writes_sinks}
-use Rattle.job_io.proofs.whole_files.NamesHanded.{HandsOver-first, HandsOver-refused, HandsOver-none, HandsOver-then, contains-one}
+use Rattle.job_io.proofs.whole_files.NamesHanded.{OpensInOrder-first, OpensInOrder-refused, OpensInOrder-none, OpensInOrder-then, contains-one}
 use Rattle.job_io.specs.whole_files.Leaves.{GivesText}
 use Rattle.job_io.specs.whole_files.FilesUsed.{WritesFiles}
 
@@ -101,14 +101,14 @@ pub writes-none : (old new : FilesState) (name : List ℕ) (fault : OpenFault) �
 writes-none old new name fault opens notes later =
     record {
       frame = opens_sinks old new name (Err fault) opens;
-      handed = HandsOver-refused old.sinks.names new.sinks.names name fault notes;
+      handed = OpensInOrder-refused old.sinks.names new.sinks.names name fault notes;
       others = λ other apart. ap (λ (s : FilesState). s.contents other) opens;
       later = later;
     }
 
 -- nothing was written
 pub writes-nothing : (names : List (List ℕ)) (files : FilesState) → WritesFiles names files files
-writes-nothing names files = record { frame = refl; handed = HandsOver-none files.sinks.names names; others = λ other apart. refl; later = omega arith }
+writes-nothing names files = record { frame = refl; handed = OpensInOrder-none files.sinks.names names; others = λ other apart. refl; later = omega arith }
 
 -- names that were told stay told
 pub gives-before : (m0 m1 : Option (List (List ℕ))) (names : List (List ℕ)) (P : Type 0) → AppendsNames m0 m1 names
@@ -121,7 +121,7 @@ gives-before (Some x) (Some y) names P noted p = p
 pub writes-first : (first second : List ℕ) (old new : FilesState) → WritesFiles (first ∷ []) old new → WritesFiles (first ∷ second ∷ []) old new
 writes-first first second old new wrote = record {
   frame = wrote.frame;
-  handed = HandsOver-first old.sinks.names new.sinks.names first first (second ∷ []) refl wrote.handed;
+  handed = OpensInOrder-first old.sinks.names new.sinks.names first first (second ∷ []) refl wrote.handed;
   others = λ other apart. wrote.others other (one other apart);
   later = wrote.later;
 }
@@ -137,7 +137,7 @@ writes-both first second old mid new wrote noted then =
     let two = then.later in
     record {
       frame = ChangesSinks-trans old mid new wrote.frame then.frame;
-      handed = HandsOver-then old.sinks.names mid.sinks.names new.sinks.names first first (second ∷ []) refl noted then.handed;
+      handed = OpensInOrder-then old.sinks.names mid.sinks.names new.sinks.names first first (second ∷ []) refl noted then.handed;
       others = λ other apart. then.others other (last other apart) ∙ wrote.others other (one_of other apart);
       later = omega (arith, one, two);
     }

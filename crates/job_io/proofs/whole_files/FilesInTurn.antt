@@ -8,11 +8,11 @@ use Rattle.std.proofs.lemmas.List.FromFn.{get_or-map-range_with_len, length-map-
 use Rattle.gl_outside.specs.FilesState.{FilesState}
 use Rattle.gl_outside.specs.Names.{AppendsNames}
 use Rattle.gl_outside.proofs.Opening.{ChangesSinks-trans}
-use Rattle.job_io.specs.whole_files.FilesUsed.{HandsOver, WritesFiles}
+use Rattle.job_io.specs.whole_files.FilesUsed.{OpensInOrder, WritesFiles}
 use Rattle.job_io.specs.whole_files.InTurn.{LeavesFiles, LeavesFronts, WroteFiles, first_names}
 use Rattle.job_io.specs.whole_files.Leaves.{GivesText, KeepsOrGives}
 use Rattle.job_io.proofs.whole_files.FilesCreated.{gives-before, other-kept, writes-nothing}
-use Rattle.job_io.proofs.whole_files.NamesHanded.{AppendsNames-nil, AppendsNames-trans, HandsOver-refused}
+use Rattle.job_io.proofs.whole_files.NamesHanded.{AppendsNames-nil, AppendsNames-trans, OpensInOrder-refused}
 
 -- the name at a place is one of the first
 pub contains-name : (name : ℕ → List ℕ) (n k : ℕ) → k < n → Contains (first_names name n) (name k)
@@ -20,7 +20,7 @@ contains-name name n k inside =
     (k, rw (length-map-range_with_len name 0 n) inside, get_or-map-range_with_len name 0 n k k (name k) inside (omega arith))
 
 -- what was handed on is a front of all names
-pub hands-first : (name : ℕ → List ℕ) (n k : ℕ) (a b : Option (List (List ℕ))) → k ≤ n → AppendsNames a b (first_names name k) → HandsOver a b (first_names name n)
+pub hands-first : (name : ℕ → List ℕ) (n k : ℕ) (a b : Option (List (List ℕ))) → k ≤ n → AppendsNames a b (first_names name k) → OpensInOrder a b (first_names name n)
 hands-first name n k a b few handed = (k, subst (AppendsNames a b) (sym (take-map-range_with_len name 0 n k few)) handed)
 
 -- one name more was handed on
@@ -30,8 +30,8 @@ hands-more name k a b c first then =
     subst (AppendsNames a c) (sym (map-range_with_len_more name 0 k k (omega arith))) (AppendsNames-trans a b c (first_names name k) (name k ∷ []) first then)
 
 -- one name more was handed on, or none
-pub hands-last : (name : ℕ → List ℕ) (n k : ℕ) (a b c : Option (List (List ℕ))) → k < n → AppendsNames a b (first_names name k) → HandsOver b c (name k ∷ [])
-    → HandsOver a c (first_names name n)
+pub hands-last : (name : ℕ → List ℕ) (n k : ℕ) (a b c : Option (List (List ℕ))) → k < n → AppendsNames a b (first_names name k) → OpensInOrder b c (name k ∷ [])
+    → OpensInOrder a c (first_names name n)
 hands-last name n k a b c inside first (zero, then) =
     hands-first name n k a c (omega (arith, inside)) (subst (AppendsNames a c) (append-none (first_names name k)) (AppendsNames-trans a b c (first_names name k) [] first then))
   where

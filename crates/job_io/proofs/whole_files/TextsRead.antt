@@ -11,10 +11,10 @@ use Rattle.gl_outside.proofs.Opening.{opens_sources, reads_sources, source_opene
 use Rattle.gl_outside.specs.Frames.{ChangesSources, OpensSource, ReadsOnly}
 use Rattle.gl_outside.specs.declared.files.FileNo.{FileNo}
 use Rattle.gl_outside.specs.Faults.{Rose}
-use Rattle.job_io.specs.whole_files.FilesUsed.{HandsOver, OfRead, OfText, ReadsFiles}
+use Rattle.job_io.specs.whole_files.FilesUsed.{OpensInOrder, OfRead, OfText, ReadsFiles}
 use Rattle.job_io.specs.whole_files.FilesRead.{not_read_of, IsFront, ReadsFront}
 use Rattle.job_io.specs.declared.whole_files.reading.NotRead.{NotRead}
-use Rattle.job_io.proofs.whole_files.NamesHanded.{HandsOver-first, HandsOver-refused}
+use Rattle.job_io.proofs.whole_files.NamesHanded.{OpensInOrder-first, OpensInOrder-refused}
 use Rattle.job_io.specs.declared.whole_files.reading.NotRead.TheVariants as file
 
 is_no_truth : IsTrue false → ⊥
@@ -101,10 +101,10 @@ left-is old mid was name number own opens own_is was_is =
 pub reads-none : (old new : FilesState) (name : List ℕ) (fault : OpenFault) → OpensSource old new name (Err fault) → NotesName old.sources.names new.sources.names name (Err fault)
     → old.sources.faults ≤ new.sources.faults → ReadsFiles (name ∷ []) old new
 reads-none old new name fault opens notes later =
-    record { frame = opens_sources old new name (Err fault) opens; handed = HandsOver-refused old.sources.names new.sources.names name fault notes; later = later }
+    record { frame = opens_sources old new name (Err fault) opens; handed = OpensInOrder-refused old.sources.names new.sources.names name fault notes; later = later }
 
 -- files were read, and then others
-pub reads-after : (a b c : FilesState) (xs ys names : List (List ℕ)) → ReadsFiles xs a b → ReadsFiles ys b c → HandsOver a.sources.names c.sources.names names → ReadsFiles names a c
+pub reads-after : (a b c : FilesState) (xs ys names : List (List ℕ)) → ReadsFiles xs a b → ReadsFiles ys b c → OpensInOrder a.sources.names c.sources.names names → ReadsFiles names a c
 reads-after a b c xs ys names p q handed =
     let first = p.later in
     let then = q.later in
@@ -113,7 +113,7 @@ reads-after a b c xs ys names p q handed =
 -- the first of some files was read, under a name that is the first one
 pub reads-more : (a b : FilesState) (v first : List ℕ) (rest : List (List ℕ)) → v ≡ first → ReadsFiles (v ∷ []) a b → ReadsFiles (first ∷ rest) a b
 reads-more a b v first rest e p =
-    record { frame = p.frame; handed = HandsOver-first a.sources.names b.sources.names v first rest e p.handed; later = p.later }
+    record { frame = p.frame; handed = OpensInOrder-first a.sources.names b.sources.names v first rest e p.handed; later = p.later }
 
 -- what a text that was read says is said of the same name
 pub renamed : (files : FilesState) (v name : List ℕ) (P : List ℕ → Type 0) → v ≡ name → OfText files v P → OfText files name P

@@ -11,7 +11,7 @@ use Rattle.job_io.specs.declared.job_files.inputs.Input.{Input}
 use Rattle.job_io.specs.declared.job_files.inputs.NoInput.{NoInput}
 use Rattle.job_io.specs.declared.job_files.inputs.NoInput.TheVariants as why
 use Rattle.job_io.specs.declared.job_files.jobs.JobVerb.{JobVerb}
-use Rattle.job_io.specs.whole_files.FilesUsed.{HandsOver}
+use Rattle.job_io.specs.whole_files.FilesUsed.{OpensInOrder}
 use Rattle.job_io.specs.job_files.NamesRead.{names_of}
 use Rattle.job_io.specs.job_files.Atoms.{HasAtoms, RefusesAtoms}
 use Rattle.job_io.specs.job_files.DoableJobs.{doable}
@@ -56,8 +56,8 @@ IsRunInput verb files now file (Err why.NoMemory) = ⊤
 -- most, in turn
 abbrev pub RefusesEarly : {T : Type 0} → JobVerb → List ℕ → FilesState → FilesState → Result T NoInput → Type 0
 RefusesEarly verb file old new (Ok value) = ⊤
-RefusesEarly verb file old new (Err (why.BadJob fault)) = HandsOver old.sources.names new.sources.names (names_of verb old file)
-RefusesEarly verb file old new (Err (why.BadGraph fault)) = HandsOver old.sources.names new.sources.names (names_of verb old file)
+RefusesEarly verb file old new (Err (why.BadJob fault)) = OpensInOrder old.sources.names new.sources.names (names_of verb old file)
+RefusesEarly verb file old new (Err (why.BadGraph fault)) = OpensInOrder old.sources.names new.sources.names (names_of verb old file)
 RefusesEarly verb file old new (Err (why.BadAtoms fault)) = ⊤
 RefusesEarly verb file old new (Err why.ReadFault) = ⊤
 RefusesEarly verb file old new (Err why.NoMemory) = ⊤

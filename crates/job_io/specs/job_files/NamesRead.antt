@@ -10,7 +10,7 @@ use Rattle.job_io.specs.job_config.Jobs.{JobSayings}
 use Rattle.job_io.specs.declared.job_files.jobs.JobVerb.{JobVerb}
 use Rattle.graph_atoms.specs.atom_gather.IndexForm.{atoms_in}
 use Rattle.job_io.specs.whole_files.AtomNames.{atom_name, index_name}
-use Rattle.job_io.specs.whole_files.FilesUsed.{HandsOver}
+use Rattle.job_io.specs.whole_files.FilesUsed.{OpensInOrder}
 use Rattle.job_io.specs.whole_files.InTurn.{first_names}
 use Rattle.job_io.specs.job_files.Atoms.{OfGraph, given_bytes, index_form}
 use Rattle.job_io.specs.job_files.DoableJobs.{job_for}
@@ -59,8 +59,8 @@ atoms_names files prefix = index_name prefix ∷ first_names (atom_name prefix) 
 
 -- The names of files that are read for a run are at most the job's file and those of its graph, in turn; and where the job
 -- names a prefix, and the graph has no fault, those of the atoms there behind them.
-abbrev pub HandsForRun : JobVerb → FilesState → FilesState → List ℕ → Type 0
-HandsForRun verb old new file =
-    HandsOver old.sources.names new.sources.names (names_of verb old file)
+abbrev pub RunOpens : JobVerb → FilesState → FilesState → List ℕ → Type 0
+RunOpens verb old new file =
+    OpensInOrder old.sources.names new.sources.names (names_of verb old file)
     ⊎ OfJob verb old file (λ job. (prefix : List ℕ) × (job.atoms_at ≡ Some prefix) × OfTexts old job (OfGraph job (λ g. ⊤))
-    × HandsOver old.sources.names new.sources.names (names_of verb old file ++ atoms_names old prefix))
+    × OpensInOrder old.sources.names new.sources.names (names_of verb old file ++ atoms_names old prefix))

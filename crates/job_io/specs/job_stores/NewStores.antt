@@ -3,14 +3,14 @@ use Rattle.std.specs.Prelude.{◌≡◌, ◌≢◌, ◌<◌, ◌≤◌, ◌++◌
 use Rattle.gl_outside.specs.Disk.{DiskPast, images_now}
 use Rattle.gl_outside.specs.Faults.{Rose}
 use Rattle.gl_outside.specs.FilesState.{FilesState}
-use Rattle.store.specs.snap_journal.Journals.{AllStandFor}
+use Rattle.store.specs.snap_journal.Journals.{AllDecodeTo}
 use Rattle.store.specs.declared.store_format.faults.StoreFault.{StoreFault}
 use Rattle.store.specs.declared.store_format.faults.StoreFault.TheVariants.{NotEmpty}
 use Rattle.store.specs.declared.store_format.header.Header.{Header}
 use Rattle.store.specs.store_format.Headers.{store_header}
-use Rattle.job_io.specs.whole_files.FilesUsed.{HandsOver}
-use Rattle.job_io.specs.declared.job_stores.making.NoStore.{NoStore}
-use Rattle.job_io.specs.declared.job_stores.making.NoStore.TheVariants as no
+use Rattle.job_io.specs.whole_files.FilesUsed.{OpensInOrder}
+use Rattle.job_io.specs.declared.job_stores.making.StoreError.{StoreError}
+use Rattle.job_io.specs.declared.job_stores.making.StoreError.TheVariants as no
 
 -- this is said where the names of disks are told, and what disks hold
 abbrev pub IfDisksTold : Bool → FilesState → Type 0 → Type 0
@@ -25,17 +25,17 @@ pub record IsNewStore (header : Header) (old new : DiskPast) : Type 0 where
   pub empty : length old.now.seen ≡ 0
   pub bytes : new.now.seen ≡ empty_store header
   pub images : (image : List ℕ) → images_now new image → image ≡ empty_store header
-  pub stands : AllStandFor header [] new
+  pub stands : AllDecodeTo header [] new
 
 -- a disk has bytes, and the fault tells how many
 abbrev pub HasBytes : DiskPast → StoreFault → Type 0
 HasBytes past fault = (0 < length past.now.seen) × (fault ≡ NotEmpty (length past.now.seen))
 
 -- why no store was made under this name
-abbrev pub IsWhyNoStore : Bool → List ℕ → FilesState → FilesState → NoStore → Type 0
-IsWhyNoStore told name old new (no.BadStore fault) = IfDisksTold told old (HasBytes (old.pasts name) fault)
-IsWhyNoStore told name old new no.DiskFault = Rose old.disks.faults new.disks.faults
-IsWhyNoStore told name old new no.NoMemory = new.pasts ≡ old.pasts
+abbrev pub MakeStoreErrorCause : Bool → List ℕ → FilesState → FilesState → StoreError → Type 0
+MakeStoreErrorCause told name old new (no.BadStore fault) = IfDisksTold told old (HasBytes (old.pasts name) fault)
+MakeStoreErrorCause told name old new no.DiskFault = Rose old.disks.faults new.disks.faults
+MakeStoreErrorCause told name old new no.NoMemory = new.pasts ≡ old.pasts
 
 -- no disk that has bytes changes
 abbrev pub KeepsFilledDisks : Bool → FilesState → FilesState → Type 0
@@ -48,6 +48,6 @@ ChangesDisks old new = new ≡ record old { pasts = new.pasts; disks = new.disks
 -- at most this file was opened as a disk, all but disks stayed, and no other name's disk changed
 pub record UsesDisk (name : List ℕ) (old new : FilesState) : Type 0 where
   pub frame : ChangesDisks old new
-  pub handed : HandsOver old.disks.names new.disks.names (name ∷ [])
+  pub handed : OpensInOrder old.disks.names new.disks.names (name ∷ [])
   pub others : (other : List ℕ) → other ≢ name → new.pasts other ≡ old.pasts other
   pub later : old.disks.faults ≤ new.disks.faults

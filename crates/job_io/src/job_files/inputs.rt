@@ -10,7 +10,7 @@ ghost use Rattle.graph_atoms.specs.declared.atom_gather.cuts.Cut.TheVariants.{Gr
 ghost use Rattle.job_io.specs.job_config.Views.{job_view};
 ghost use Rattle.job_io.specs.job_files.Atoms.{IsCutOf};
 ghost use Rattle.job_io.specs.job_files.Inputs.{IsInput, IsRunInput, RefusesEarly};
-ghost use Rattle.job_io.specs.job_files.NamesRead.{HandsForRun, names_of};
+ghost use Rattle.job_io.specs.job_files.NamesRead.{RunOpens, names_of};
 
 use crate::job_files::JobVerb;
 use crate::job_files::atoms::read_cut;
@@ -136,7 +136,7 @@ pub fn read_run_input<F: Files>(
     ensures answer { IsRunInput verb (F.state files.old)
         (F.state files.new).sources.faults file.now result }
     ensures frame { ChangesSources (F.state files.old) (F.state files.new) }
-    ensures handed { HandsForRun verb (F.state files.old) (F.state files.new) file.now }
+    ensures handed { RunOpens verb (F.state files.old) (F.state files.new) file.now }
     ensures refused { RefusesEarly verb file.now (F.state files.old) (F.state files.new) result }
     ensures later { (F.state files.old).sources.faults ≤ (F.state files.new).sources.faults }
     ensures cut { IfOk result (λ input.

@@ -17,7 +17,7 @@ use Rattle.scope_locks.proofs.scope_pipe.FlightLemmas.{in_flight_where}
 use Rattle.wire.specs.declared.wire_msgs.messages.Done.{Done}
 use Rattle.cluster_laws.specs.cluster_core.Effects.{applied, nothing_saved, first_unmarked, first_pending, seed_if, is_at, knows, newer_datum}
 use Rattle.partition.specs.declared.machine_numbers.keeping.Numbers.{Numbers}
-use Rattle.partition.specs.machine_numbers.Views.{TasksView, AreTasksOf, ghost_datum, news_of, is_named}
+use Rattle.partition.specs.machine_numbers.Views.{TasksView, AreTasksOf, ghost_datum, news_of, is_in_update}
 use Rattle.partition.specs.machine_numbers.Steps.{HasLearned}
 use Rattle.partition.specs.machine_numbers.Settings.{with_numbers, IsRowOf}
 use Rattle.local_graph.specs.declared.sides.Side.{Side}
@@ -112,7 +112,7 @@ module _ (old new : Core) (done : Done) (order : IsOrderly old) (can : CanLearn 
       ap (λ (o : Option ℕ). is_at (seed_if (first_pending st before) o) u) none ∙ ap (λ (o : Option ℕ). is_at o u) (seed_none (first_pending st before)) in
       ap (λ (o : Option ℕ). flag_there new.numbers.tasks.pending o) (place_kept old.numbers.local new.numbers.local graph u)
       ∙ ap (λ (t : TasksView). flag_there t.pending (place_at old.numbers.local u)) heard.tasks
-      ∙ sym (ap (λ (ws : List Vertex). is_named ws u || (is_at (seed_if (first_pending st before) (first_unmarked st a before)) u || pending_here old.numbers u)) can.pends
+      ∙ sym (ap (λ (ws : List Vertex). is_in_update ws u || (is_at (seed_if (first_pending st before) (first_unmarked st a before)) u || pending_here old.numbers u)) can.pends
       ∙ ap (λ (b : Bool). b || pending_here old.numbers u) unseeded)
 
   pub received_is : HasReceivedDone old new done

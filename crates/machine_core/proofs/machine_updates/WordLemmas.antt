@@ -26,7 +26,7 @@ use Rattle.partition.proofs.local_parts.NearLemmas.{neighbour_passes}
 use Rattle.machine_core.proofs.lock_release.ReleaseLemmas.{owned_where}
 use Rattle.scope_locks.specs.scope_pipe.Entered.{EnteredView}
 use Rattle.wire.specs.declared.wire_msgs.messages.Done.{Done}
-use Rattle.partition.specs.machine_numbers.Views.{HasEdge, is_named, news_of, number_told}
+use Rattle.partition.specs.machine_numbers.Views.{HasEdge, is_in_update, news_of, number_told}
 use Rattle.machine_core.specs.declared.machine_parts.cores.Core.{Core}
 use Rattle.machine_core.specs.machine_parts.Parts.{LocalView, Stand, is_own, part_at, part_of, entered_at, holder_at, stand_at, lock_asked, machine_numbers}
 use Rattle.machine_core.specs.machine_parts.Order.{IsOrderly, is_one_of}
@@ -50,9 +50,9 @@ told_some edges k d low = by edges k low
     by (one ∷ edges) (suc k) low = let e = (get_or edges k d).0.0 in first one edges e (e == one.0.0) refl (λ no. by edges k (omega arith))
 
 -- nobody is named
-pub named_none : (vs : List Vertex) → ((u : ℕ) → is_named vs u ≡ false) → vs ≡ []
+pub named_none : (vs : List Vertex) → ((u : ℕ) → is_in_update vs u ≡ false) → vs ≡ []
 named_none [] none = refl
-named_none (v ∷ vs) none = absurd (true≢false (sym (ap (λ (b : Bool). b || is_named vs v.0) (eq-eqb v.0 v.0 refl)) ∙ none v.0))
+named_none (v ∷ vs) none = absurd (true≢false (sym (ap (λ (b : Bool). b || is_in_update vs v.0) (eq-eqb v.0 v.0 refl)) ∙ none v.0))
 
 -- ---- who has come stands at a lock
 
@@ -133,7 +133,7 @@ module _ (st : Setting) (p : ℕ) (m : Core) (done : Done) (setting : IsSetting 
       ]
 
   pub done_can_be_learned : (part_of m).stand done.scope ≡ None → ((x : ℕ) → st.owner x ≡ m.numbers.local.me.0 → is_in_scope st done.centre.0 x ≡ false → (part_of m).holder x done.scope ≡ None)
-      → ((u : ℕ) → is_named done.wakes.items u ≡ true → is_near st done.centre.0 u ≡ true) → ((u : ℕ) → is_named done.pends.items u ≡ false) → done.number ≡ 0 → CanLearn m done
+      → ((u : ℕ) → is_in_update done.wakes.items u ≡ true → is_near st done.centre.0 u ≡ true) → ((u : ℕ) → is_in_update done.pends.items u ≡ false) → done.number ≡ 0 → CanLearn m done
   done_can_be_learned stand others close pends number =
       record {
         away = away;
@@ -144,7 +144,7 @@ module _ (st : Setting) (p : ℕ) (m : Core) (done : Done) (setting : IsSetting 
         edges = λ k d low. edge_known st m.numbers.local done.centre.0 setting part.local elsewhere (get_or done.edges.items k d).0.0 (may.edges (get_or done.edges.items k d).0.0 (told_some done.edges.items k d low));
         wakes = λ k d low.
             let u = (get_or done.wakes.items k d).0 in
-            let named : is_named done.wakes.items u ≡ true = list_any_at (λ (v : Vertex). v.0 == u) done.wakes.items k d low (eq-eqb u u refl) in
+            let named : is_in_update done.wakes.items u ≡ true = list_any_at (λ (v : Vertex). v.0 == u) done.wakes.items k d low (eq-eqb u u refl) in
             own_from_setting u (near_within st setting done.centre.0 u (close u named)).0 (may.wakes u named);
         pends = named_none done.pends.items pends;
         number = number;

@@ -1,7 +1,7 @@
 -- The part of a cluster that a machine's parts stand for.
 pub use Rattle.cluster_laws.specs.cluster_core.Parts.{Part, Stand}
 pub use Rattle.local_graph.specs.Locals.{LocalView, place_at, is_placed, is_own, links_at, sides_at, parts_at, part_at, machine_numbers}
-pub use Rattle.partition.specs.machine_numbers.Views.{TasksView, datum_here, task_here, edge_here, flag_there, number_told, is_named}
+pub use Rattle.partition.specs.machine_numbers.Views.{TasksView, datum_here, task_here, edge_here, flag_there, number_told, is_in_update}
 pub use Rattle.scope_locks.specs.scope_pipe.Entered.{EnteredView, last_asked, lock_asked}
 pub use Rattle.scope_locks.specs.scope_pipe.Pipes.{PipeView, flight_at, is_ready, flight_count, entered_at}
 pub use Rattle.scope_locks.specs.vertex_locks.Tables.{is_owned, holder_at, queue_at}
@@ -25,8 +25,8 @@ news_told d =
       centre = d.centre.0;
       datum = d.datum;
       edges = number_told d.edges;
-      wakes = is_named d.wakes;
-      pends = is_named d.pends;
+      wakes = is_in_update d.wakes;
+      pends = is_in_update d.pends;
       number = d.number;
     }
 

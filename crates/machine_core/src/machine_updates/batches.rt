@@ -14,7 +14,7 @@ use crate::machine_updates::spares::Spares;
 use crate::machine_updates::works::take_work;
 use gl_base::{NoMemory, Refused, ScopeId, Vertex};
 use local_graph::{Batch, Work};
-use partition::machine_numbers::{Numbers, Spare};
+use partition::machine_numbers::{Numbers, ScratchBuffers};
 use scope_locks::scope_pipe::Flight;
 use std::alloc::Global;
 
@@ -22,7 +22,7 @@ use std::alloc::Global;
 #[derive(Drop)]
 pub struct Due {
     pub flight: Flight,
-    pub spare: Spare,
+    pub spare: ScratchBuffers,
 }
 
 /// Takes out every scope that is ready for an ordinary update and isn't taken yet, in the order in

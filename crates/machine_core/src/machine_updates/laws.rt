@@ -3,7 +3,7 @@ ghost use Rattle.std.specs.Prelude.{◌≡◌, ◌≢◌, ℕ, true, false, None
 ghost use Rattle.local_graph.specs.declared.works.Work.{Work};
 ghost use Rattle.wire.specs.declared.wire_msgs.messages.Done.{Done};
 ghost use Rattle.cluster_laws.specs.cluster_core.Settings.{IsSetting, is_in_scope, is_near};
-ghost use Rattle.partition.specs.machine_numbers.Views.{is_named, news_of};
+ghost use Rattle.partition.specs.machine_numbers.Views.{is_in_update, news_of};
 ghost use Rattle.machine_core.specs.declared.machine_parts.cores.Core.{Core};
 ghost use Rattle.machine_core.specs.machine_parts.Order.{IsOrderly};
 ghost use Rattle.machine_core.specs.machine_parts.Parts.{part_of};
@@ -28,6 +28,6 @@ pub fn dones_can_be_learned()
         IsAtHome st done.scope done.centre.0 → (part_of m).stand done.scope ≡ None →
         ((x : ℕ) → st.owner x ≡ m.numbers.local.me.0 → is_in_scope st done.centre.0 x ≡ false →
         (part_of m).holder x done.scope ≡ None) →
-        ((u : ℕ) → is_named done.wakes.items u ≡ true → is_near st done.centre.0 u ≡ true) →
-        ((u : ℕ) → is_named done.pends.items u ≡ false) → done.number ≡ 0 → CanLearn m done }
+        ((u : ℕ) → is_in_update done.wakes.items u ≡ true → is_near st done.centre.0 u ≡ true) →
+        ((u : ℕ) → is_in_update done.pends.items u ≡ false) → done.number ≡ 0 → CanLearn m done }
 {}

@@ -3,14 +3,14 @@ ghost use Rattle.std.specs.Prelude.{◌≤◌, IfOk, vec_capacity};
 ghost use Rattle.partition.specs.machine_numbers.Steps.{HasRoom};
 
 use gl_base::NoMemory;
-use partition::machine_numbers::{Spare, Spent};
+use partition::machine_numbers::{ScratchBuffers, Spent};
 use std::alloc::Global;
 
 /// Lists that works have left behind. The works that are taken next get them, so that in the long
 /// run none is made.
 #[derive(Drop)]
 pub struct Spares {
-    lists: Vec<Spare>,
+    lists: Vec<ScratchBuffers>,
     made: Vec<Vec<u64>>,
 }
 
@@ -24,15 +24,15 @@ impl Spares {
     }
 
     /// Lists with room for the work of a vertex with so many edges.
-    pub fn fitted(&mut self, alloc: Global, degree: usize) -> Result<Spare, NoMemory>
+    pub fn fitted(&mut self, alloc: Global, degree: usize) -> Result<ScratchBuffers, NoMemory>
         ensures { IfOk result (λ spare. HasRoom spare degree) }
     {
         match self.lists.pop() {
-            Some(spare) => Ok(Spare {
+            Some(spare) => Ok(ScratchBuffers {
                 edges: fit(spare.edges, degree)?,
                 near: fit(spare.near, degree)?,
             }),
-            None => Spare::with_room(alloc, degree),
+            None => ScratchBuffers::with_room(alloc, degree),
         }
     }
 
@@ -47,14 +47,14 @@ impl Spares {
     /// Keeps the lists of a work and of what was made of it, where there is room for them.
     pub fn keep_all(&mut self, spent: Spent) {
         let Spent { edges, near, made } = spent;
-        self.keep(Spare { edges, near });
+        self.keep(ScratchBuffers { edges, near });
         if self.made.len() < self.made.capacity() {
             self.made.push_reserved(made);
         }
     }
 
     /// Keeps the lists of a work where there is room for them.
-    pub fn keep(&mut self, spare: Spare) {
+    pub fn keep(&mut self, spare: ScratchBuffers) {
         if self.lists.len() < self.lists.capacity() {
             self.lists.push_reserved(spare);
         }

@@ -9,12 +9,12 @@ ghost use Rattle.machine_core.specs.machine_updates.Works.{IsOut, CanBeTaken, Ha
 
 use crate::machine_parts::Core;
 use local_graph::Work;
-use partition::machine_numbers::Spare;
+use partition::machine_numbers::ScratchBuffers;
 use scope_locks::scope_pipe::Flight;
 
 /// Takes out a scope that is ready for an ordinary update, with the numbers that the update may
 /// use. The lists of `spare` have room for them, so it takes no memory.
-pub fn take_work(core: &mut Core, flight: Flight, spare: Spare) -> Work
+pub fn take_work(core: &mut Core, flight: Flight, spare: ScratchBuffers) -> Work
     requires orderly { IsOrderly core.old }
     requires can { CanBeTaken core.old flight.scope flight.centre }
     requires room { HasRoom spare (length (sides_at core.old.numbers.local flight.centre.0)) }
@@ -42,7 +42,7 @@ pub fn take_work(core: &mut Core, flight: Flight, spare: Spare) -> Work
 
 /// Puts back a work of which no update was made: no number changes, and its scope may be taken
 /// again. It takes no memory, and hands back the lists of the work's numbers.
-pub fn put_back(core: &mut Core, work: Work) -> Spare
+pub fn put_back(core: &mut Core, work: Work) -> ScratchBuffers
     requires orderly { IsOrderly core.old }
     requires out { IsOut core.old work }
     ensures rows { (x : ℕ) →

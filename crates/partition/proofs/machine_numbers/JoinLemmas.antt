@@ -19,7 +19,7 @@ use Rattle.local_graph.specs.declared.works.Outcome.{Outcome}
 use Rattle.wire.specs.declared.wire_msgs.messages.Done.{Done}
 use Rattle.partition.specs.local_parts.Parts.{half_along, halves_along, AreOfTwoEdges, is_shared_by}
 use Rattle.partition.specs.declared.machine_numbers.keeping.Numbers.{Numbers}
-use Rattle.partition.specs.machine_numbers.Views.{news_of, is_named, number_told, sides_at, numbers_along, datum_here, task_here, edge_here}
+use Rattle.partition.specs.machine_numbers.Views.{news_of, is_in_update, number_told, sides_at, numbers_along, datum_here, task_here, edge_here}
 use Rattle.partition.specs.machine_numbers.Steps.{HasUpdated, TellsOf, told_edges, told_wakes, told_datum, wakes_of, wakes_there, set_at, renewed}
 use Rattle.partition.specs.machine_numbers.Settings.{Setting, Part, updated, news_for, with_numbers, IsOutcomeOf, EdgesShared}
 use Rattle.partition.proofs.machine_numbers.RowLemmas.{stands_at, value_made, edges_are, edges_made, wakes_made}
@@ -99,13 +99,13 @@ told_is st v to p s own (t ∷ sides) (link ∷ links) e same owners shared apar
 
 -- ---- vertices that are told
 
-named_is : (to : ℕ) (woken : Woken) (sides : List Side) (links : List Link) (u : ℕ) → is_named (told_wakes to woken sides links) u ≡ wakes_of to woken sides links u
+named_is : (to : ℕ) (woken : Woken) (sides : List Side) (links : List Link) (u : ℕ) → is_in_update (told_wakes to woken sides links) u ≡ wakes_of to woken sides links u
 named_is to woken [] links u = refl
 named_is to woken (s ∷ sides) [] u = refl
 named_is to woken (s ∷ sides) (link ∷ links) u =
     one (wakes_there to woken s link) (told_wakes to woken sides links) s u ∙ ap (λ b. (wakes_there to woken s link && s.other.0 == u) || b) (named_is to woken sides links u)
   where
-    one : (b : Bool) (rest : List Vertex) (s : Side) (u : ℕ) → is_named (if b then s.other ∷ rest else rest) u ≡ ((b && s.other.0 == u) || is_named rest u)
+    one : (b : Bool) (rest : List Vertex) (s : Side) (u : ℕ) → is_in_update (if b then s.other ∷ rest else rest) u ≡ ((b && s.other.0 == u) || is_in_update rest u)
     one true rest s u = refl
     one false rest s u = refl
 
@@ -131,7 +131,7 @@ news_are st to o done n part is share tells =
       centre = (tells.centre i).0;
       datum = (tells.datum ∙ ap (told_datum (datum_here n v)) value) i;
       edges = λ e. edges e i;
-      wakes = λ u. (ap (λ (ws : List Vertex). is_named ws u) tells.wakes ∙ named_is to.0 o.woken sides links u ∙ wakes_made st n o is to.0 u) i;
-      pends = λ u. is_named (tells.pends i) u;
+      wakes = λ u. (ap (λ (ws : List Vertex). is_in_update ws u) tells.wakes ∙ named_is to.0 o.woken sides links u ∙ wakes_made st n o is to.0 u) i;
+      pends = λ u. is_in_update (tells.pends i) u;
       number = tells.number i;
     }

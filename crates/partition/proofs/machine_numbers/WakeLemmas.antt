@@ -8,7 +8,7 @@ use Rattle.update_api.specs.declared.links.Link.{Link}
 use Rattle.update_api.specs.declared.woken.Woken.{Woken}
 use Rattle.local_graph.specs.declared.sides.Side.{Side}
 use Rattle.local_graph.proofs.PlaceLemmas.{at_written}
-use Rattle.partition.specs.machine_numbers.Views.{LocalView, TasksView, AreTasksOf, is_own, place_at, flag_there, is_named}
+use Rattle.partition.specs.machine_numbers.Views.{LocalView, TasksView, AreTasksOf, is_own, place_at, flag_there, is_in_update}
 use Rattle.partition.specs.machine_numbers.Steps.{IsSideHere, wakes_there, wakes_of, wakes_along, woken_flags}
 
 pub own_inside : (l : LocalView) (t : TasksView) (v k : ℕ) → AreTasksOf l t → is_own l v ≡ true → place_at l v ≡ Some k → k < length t.task
@@ -72,11 +72,11 @@ pub waking_all : (l : LocalView) (all left : ℕ → Bool) (old now : TasksView)
     → (u : ℕ) → flag_there now.task (place_at l u) ≡ (all u || flag_there old.task (place_at l u))
 waking_all l all left old now is none u = sym (is.each u ∙ ap (λ b. b || flag_there now.task (place_at l u)) (none u))
 
-pub named_more : (wakes : List Vertex) (i : ℕ) (d : Vertex) (u : ℕ) → i < length wakes → is_named (drop i wakes) u ≡ (((get_or wakes i d).0 == u) || is_named (drop (i + 1) wakes) u)
-named_more wakes i d u inside = ap (λ (vs : List Vertex). is_named vs u) (drop_more wakes i d inside)
+pub named_more : (wakes : List Vertex) (i : ℕ) (d : Vertex) (u : ℕ) → i < length wakes → is_in_update (drop i wakes) u ≡ (((get_or wakes i d).0 == u) || is_in_update (drop (i + 1) wakes) u)
+named_more wakes i d u inside = ap (λ (vs : List Vertex). is_in_update vs u) (drop_more wakes i d inside)
 
-pub named_none : (wakes : List Vertex) (i u : ℕ) → length wakes ≤ i → is_named (drop i wakes) u ≡ false
-named_none wakes i u all = ap (λ (vs : List Vertex). is_named vs u) (drop_all i wakes all)
+pub named_none : (wakes : List Vertex) (i u : ℕ) → length wakes ≤ i → is_in_update (drop i wakes) u ≡ false
+named_none wakes i u all = ap (λ (vs : List Vertex). is_in_update vs u) (drop_all i wakes all)
 
 pub along_more : (to : ℕ) (woken : Woken) (sides : List Side) (links : List Link) (i : ℕ) (s : Side) (link : Link) (u : ℕ) → i < length sides → length links ≡ length sides
     → wakes_of to woken (drop i sides) (drop i links) u

@@ -17,7 +17,7 @@ use Rattle.local_graph.specs.declared.works.Outcome.{Outcome}
 use Rattle.local_graph.specs.declared.works.Work.{Work}
 use Rattle.wire.specs.declared.wire_msgs.messages.Done.{Done}
 use Rattle.partition.specs.declared.machine_numbers.keeping.Numbers.{Numbers}
-use Rattle.partition.specs.declared.machine_numbers.keeping.Spare.{Spare}
+use Rattle.partition.specs.declared.machine_numbers.keeping.ScratchBuffers.{ScratchBuffers}
 use Rattle.local_graph.specs.Locals.{set_where}
 use Rattle.partition.specs.machine_numbers.Views.{own_datum, datum_or, LocalView, TasksView, News, place_at, is_own, id_at, links_at, sides_at, numbers_along, near_along, written, datum_here, value_here, task_here, edge_here, flag_there}
 
@@ -48,7 +48,7 @@ woken_flags to woken (s ∷ sides) (link ∷ links) flags = woken_flags to woken
 -- ---- works
 
 -- there is room for the numbers of a work with so many edges
-pub record HasRoom (spare : Spare) (many : ℕ) : Type 0 where
+pub record HasRoom (spare : ScratchBuffers) (many : ℕ) : Type 0 where
   pub edges : many ≤ vec_capacity spare.edges
   pub near : many ≤ vec_capacity spare.near
 

@@ -57,8 +57,8 @@ number_told [] e = None
 number_told (one ∷ edges) e = if e == one.0.0 then Some one.1 else number_told edges e
 
 -- the vertex is named
-abbrev pub is_named : List Vertex → ℕ → Bool
-is_named vertices u = list_any (λ v. v.0 == u) vertices
+abbrev pub is_in_update : List Vertex → ℕ → Bool
+is_in_update vertices u = list_any (λ v. v.0 == u) vertices
 
 abbrev pub news_of : Done → News
 news_of done =
@@ -66,8 +66,8 @@ news_of done =
       centre = done.centre.0;
       datum = done.datum;
       edges = number_told done.edges.items;
-      wakes = is_named done.wakes.items;
-      pends = is_named done.pends.items;
+      wakes = is_in_update done.wakes.items;
+      pends = is_in_update done.pends.items;
       number = done.number;
     }
 

@@ -24,7 +24,7 @@ pub struct Numbers {
 
 /// Lists for the numbers of a work: of the edges at its vertex, and of their other ends.
 #[derive(Drop)]
-pub struct Spare {
+pub struct ScratchBuffers {
     pub edges: Vec<u64>,
     pub near: Vec<u64>,
 }
@@ -38,12 +38,12 @@ pub struct Spent {
     pub made: Vec<u64>,
 }
 
-impl Spare {
+impl ScratchBuffers {
     /// Lists with room for a work of a vertex with so many edges.
-    pub fn with_room(alloc: Global, degree: usize) -> Result<Spare, NoMemory>
+    pub fn with_room(alloc: Global, degree: usize) -> Result<ScratchBuffers, NoMemory>
         ensures { IfOk result (λ spare. HasRoom spare degree) }
     {
-        Ok(Spare {
+        Ok(ScratchBuffers {
             edges: Vec::with_capacity(alloc, degree)?,
             near: Vec::with_capacity(alloc, degree)?,
         })
@@ -71,13 +71,13 @@ impl Numbers {
 
     /// Moves the vertex of a ready scope out for its update, with the numbers that the update may
     /// use. The lists of `spare` have room for them, so it takes no memory.
-    pub fn take_work(&mut self, scope: ScopeId, v: Vertex, spare: Spare) -> Work
+    pub fn take_work(&mut self, scope: ScopeId, v: Vertex, spare: ScratchBuffers) -> Work
         requires own { is_own self.old.local v.0 ≡ true }
         requires row { is_some (links_at self.old.local v.0) ≡ true }
         requires room { HasRoom spare (length (sides_at self.old.local v.0)) }
         ensures { HasTakenOut self.old self.new scope v result }
     {
-        let Spare { edges, near } = spare;
+        let ScratchBuffers { edges, near } = spare;
         let id = self.local.id(v);
         let value = self.datum(v).value;
         let near = self.gather(v, near);
@@ -94,7 +94,7 @@ impl Numbers {
 
     /// Moves the row of a work back, of which no update was made: no number changes. Hands back the
     /// lists of its numbers.
-    pub fn put_back(&mut self, work: Work) -> Spare
+    pub fn put_back(&mut self, work: Work) -> ScratchBuffers
         requires own { is_own self.old.local work.vertex.0 ≡ true }
         requires links { length work.row.links.items ≡ length
             (sides_at self.old.local work.vertex.0) }
@@ -122,7 +122,7 @@ impl Numbers {
             ..
         } = work;
         let edges = self.local.put_row(vertex, row);
-        Spare { edges, near }
+        ScratchBuffers { edges, near }
     }
 
     /// The number at the end of a side that has its place.

@@ -1,7 +1,7 @@
 //! Vertices that are made tasks.
 ghost use Rattle.std.specs.Prelude.{◌≡◌, ℕ, ◌<◌, ◌==◌, ◌&&◌, ◌||◌, true, length, slice_set, if◌then◌else◌};
 ghost use Rattle.std.specs.List.{All};
-ghost use Rattle.partition.specs.machine_numbers.Views.{AreTasksOf, is_own, place_at, flag_there, is_named};
+ghost use Rattle.partition.specs.machine_numbers.Views.{AreTasksOf, is_own, place_at, flag_there, is_in_update};
 ghost use Rattle.partition.specs.machine_numbers.Steps.{IsSideHere, wakes_along, wakes_there, wakes_of, woken_flags};
 
 use gl_base::{MachineNo, Vertex};
@@ -15,7 +15,7 @@ pub fn wake_named(tasks: &mut TaskSet, local: &LocalGraph, wakes: &[Vertex], key
     requires tasks { AreTasksOf local.now tasks.old }
     ensures each { (u : ℕ) →
         flag_there tasks.new.task (place_at local.now u) ≡
-        (is_named wakes.now u || flag_there tasks.old.task (place_at local.now u)) }
+        (is_in_update wakes.now u || flag_there tasks.old.task (place_at local.now u)) }
     ensures rest { tasks.new ≡ record tasks.old { task = tasks.new.task } }
     ensures many { length tasks.new.task ≡ length tasks.old.task }
     ensures tasks { AreTasksOf local.now tasks.new }

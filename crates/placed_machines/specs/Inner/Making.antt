@@ -7,7 +7,7 @@ pub use Rattle.placement.specs.places.Cores.{GoesBy}
 pub use Rattle.placement.specs.graphs.Beginnings.{BeginsWith}
 pub use Rattle.placement.specs.graphs.Placed.{AreUnsetParts, IsUnsetPart, LocalView}
 pub use Rattle.update_api.specs.Updates.{Update}
-pub use Rattle.placed_machines.specs.Beginning.{AreColoursFor, EngineSaver, HaveAdmitted, IsEngineSaverOf, IsOwnedBy, RunsBy, Setting}
+pub use Rattle.placed_machines.specs.Beginning.{AreColoursFor, AnyMachine, HaveAdmitted, IsAnyMachineOf, IsOwnedBy, RunsBy, Setting}
 use Rattle.std.specs.Prelude.{Bool, List, Some, false, length, slice_index_or, true, ℕ, ◌<◌, ◌≡◌}
 use Rattle.cluster_laws.specs.cluster_core.Settings.{IsSetting}
 use Rattle.coordinator.specs.declared.coord_core.steps.Engine.{Engine}
@@ -15,8 +15,8 @@ use Rattle.coordinator.specs.declared.coord_core.steps.Engine.TheVariants.{Chrom
 use Rattle.gl_base.specs.declared.snapshots.Base.{Base}
 use Rattle.graph_core.specs.DataGraph.{DataGraph}
 use Rattle.placement.specs.declared.places.cores.NewTerms.{NewTerms}
-use Rattle.placed_machines.specs.declared.savers.Places.{Places}
-use Rattle.placed_machines.specs.declared.savers.SavingRun.{SavingRun}
+use Rattle.placed_machines.specs.declared.placing.Places.{Places}
+use Rattle.placed_machines.specs.declared.placing.SavingRun.{SavingRun}
 
 -- ---- settings
 
@@ -63,6 +63,6 @@ pub record CanAllSave (parts : List LocalView) (program : Update) (base : Base) 
   pub unset : AreUnsetParts (with_locking st) parts
 
 -- each machine is the one of the law at its place that has gone back to the numbers with which the run begins
-pub record StandFirst {P : Type 0} (meaning : P → Update) (st : Setting) (before : Cluster) (savers : List (EngineSaver P)) : Type 0 where
+pub record StandFirst {P : Type 0} (meaning : P → Update) (st : Setting) (before : Cluster) (savers : List (AnyMachine P)) : Type 0 where
   pub many : length savers ≡ st.machines
-  pub each : (a : ℕ) (d : EngineSaver P) → a < st.machines → IsEngineSaverOf meaning st a (goes_back st st.start st.base a (before.machine a)) (slice_index_or savers a d)
+  pub each : (a : ℕ) (d : AnyMachine P) → a < st.machines → IsAnyMachineOf meaning st a (goes_back st st.start st.base a (before.machine a)) (slice_index_or savers a d)

@@ -1,13 +1,13 @@
 -- A new machine as a member of a cluster.
-pub use Rattle.placed_machines.specs.color_savers.Savers.{ColorSaverView}
+pub use Rattle.placed_machines.specs.chromatic.Machines.{ChromaticMachineView}
 pub use Rattle.snapshot_machines.specs.chromatic.Machines.{ColorSnapView, IsColorSnapOf, IsFreshInSteps, in_no_step}
 pub use Rattle.snapshot_machines.specs.saving.Machines.{SnapMachineView}
-pub use Rattle.snapshot_machines.specs.locking.Savers.{SaverView}
+pub use Rattle.snapshot_machines.specs.locking.Machines.{LockingMachineView}
 use Rattle.std.specs.Prelude.{All, List, [], length, true, ℕ, ◌<◌, ◌≡◌}
 use Rattle.coordinator.specs.declared.coord_core.steps.Engine.{Engine}
 use Rattle.coordinator.specs.declared.coord_core.steps.Engine.TheVariants.{Chromatic, Locking}
-use Rattle.placed_machines.specs.declared.engine_savers.savers.EngineSaver.{EngineSaver}
-use Rattle.placed_machines.specs.declared.engine_savers.savers.EngineSaver.TheVariants as saver
+use Rattle.placed_machines.specs.declared.any_machine.machines.AnyMachine.{AnyMachine}
+use Rattle.placed_machines.specs.declared.any_machine.machines.AnyMachine.TheVariants as saver
 use Rattle.placement.specs.places.Colours.{colours_by_place}
 use Rattle.update_api.specs.Updates.{Update}
 use Rattle.snapshot_machines.specs.wave_counts.Counts.{none_counted}
@@ -34,22 +34,22 @@ FitsEngine meaning (Chromatic greatest) colours m = CanRunInColours meaning colo
 -- ---- members
 
 -- the machine with this window, where nothing was counted and nothing is to be told
-pub record IsNewSaver {P : Type 0} (m : SnapMachineView P) (window : ℕ) (x : SaverView P) : Type 0 where
+pub record IsNewLockingMachine {P : Type 0} (m : SnapMachineView P) (window : ℕ) (x : LockingMachineView P) : Type 0 where
   pub machine_is : x.machine ≡ m
   pub counts : x.counts ≡ none_counted
   pub window_is : x.window ≡ window
   pub reports : x.reports.messages ≡ []
 
 -- and the same by colours
-pub record IsNewColorSaver {P : Type 0} (m : ColorSnapView P) (window : ℕ) (x : ColorSaverView P) : Type 0 where
+pub record IsNewChromaticMachine {P : Type 0} (m : ColorSnapView P) (window : ℕ) (x : ChromaticMachineView P) : Type 0 where
   pub machine_is : x.machine ≡ m
   pub counts : x.counts ≡ none_counted
   pub window_is : x.window ≡ window
   pub reports : x.reports.messages ≡ []
 
 -- as the engine wants it
-abbrev pub IsNewMember : {P : Type 0} → Engine → List ℕ → ℕ → SnapMachineView P → EngineSaver P → Type 0
-IsNewMember Locking colours window m (saver.Locking x) = IsNewSaver m window x
+abbrev pub IsNewMember : {P : Type 0} → Engine → List ℕ → ℕ → SnapMachineView P → AnyMachine P → Type 0
+IsNewMember Locking colours window m (saver.Locking x) = IsNewLockingMachine m window x
 IsNewMember Locking colours window m (saver.Chromatic x) = ⊥
 IsNewMember (Chromatic greatest) colours window m (saver.Locking x) = ⊥
-IsNewMember (Chromatic greatest) colours window m (saver.Chromatic x) = IsNewColorSaver (in_own_colours m colours) window x
+IsNewMember (Chromatic greatest) colours window m (saver.Chromatic x) = IsNewChromaticMachine (in_own_colours m colours) window x

@@ -6,7 +6,7 @@ use Rattle.std.proofs.Math.ListN.{get_or-append}
 use Rattle.gl_base.specs.declared.snapshots.Base.{Base}
 use Rattle.partition.specs.declared.machine_numbers.keeping.Numbers.{Numbers}
 use Rattle.placement.specs.graphs.Placed.{AreUnsetParts, IsUnsetPart, LocalView, Setting}
-use Rattle.placement.specs.graphs.Beginnings.{AllBegin, AreFirstNumbers, AreFreshTasks, BeginsAt, BeginsWith, CanAllBegin, CanBegin, IsReadyPart}
+use Rattle.placement.specs.graphs.Beginnings.{EachMachineStarts, AreFirstNumbers, AreFreshTasks, BeginsAt, BeginsWith, CanEachMachineStart, CanBegin, IsReadyPart}
 
 -- each machine of the first ones begins as the run does
 abbrev pub BeginSoFar : List LocalView → Base → Option ℕ → List Numbers → Type 0
@@ -17,7 +17,7 @@ BeginSoFar parts base window all =
 part_at : (st : Setting) (parts : List LocalView) (k : ℕ) (l : LocalView) → AreUnsetParts st parts → k < length parts → l ≡ get_or parts k l → IsUnsetPart st k l
 part_at st parts k l are low at = subst (IsUnsetPart st k) (sym at) (are.each k l (subst (λ (n : ℕ). k < n) are.count low))
 
-pub can_begin : (parts : List LocalView) (base : Base) (k : ℕ) (l : LocalView) → CanAllBegin parts base → k < length parts → l ≡ get_or parts k l → CanBegin l base
+pub can_begin : (parts : List LocalView) (base : Base) (k : ℕ) (l : LocalView) → CanEachMachineStart parts base → k < length parts → l ≡ get_or parts k l → CanBegin l base
 can_begin parts base k l can low at =
     let part = part_at can.st parts k l can.are_parts low at in
     record {
@@ -52,7 +52,7 @@ begins_more parts base window all k l n count low at numbers ready fresh so_far 
     ]
 
 pub all_begin : (parts : List LocalView) (base : Base) (window : Option ℕ) (all : List Numbers) → length all ≡ length parts → BeginSoFar parts base window all →
-    (st : Setting) → AreUnsetParts st parts → BeginsWith st base → AllBegin st window all
+    (st : Setting) → AreUnsetParts st parts → BeginsWith st base → EachMachineStarts st window all
 all_begin parts base window all many so_far st are begins =
     record {
       count = many ∙ are.count;

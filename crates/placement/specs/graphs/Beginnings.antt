@@ -80,13 +80,13 @@ pub record BeginsAt (st : Setting) (a : ℕ) (window : Option ℕ) (n : Numbers)
 -- ---- all machines
 
 -- these are the parts of a graph for which the base is
-pub record CanAllBegin (parts : List LocalView) (base : Base) : Type 0 where
+pub record CanEachMachineStart (parts : List LocalView) (base : Base) : Type 0 where
   pub st : Setting
   pub graph : IsDataGraph st.graph
   pub are_parts : AreUnsetParts st parts
   pub numbers : IsBaseFor st.graph base
 
 -- each machine begins so, in turn
-pub record AllBegin (st : Setting) (window : Option ℕ) (all : List Numbers) : Type 0 where
+pub record EachMachineStarts (st : Setting) (window : Option ℕ) (all : List Numbers) : Type 0 where
   pub count : length all ≡ st.machines
   pub each : (a : ℕ) (d : Numbers) → a < st.machines → BeginsAt st a window (slice_index_or all a d)

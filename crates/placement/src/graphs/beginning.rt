@@ -1,7 +1,7 @@
 //! The numbers with which a machine begins.
 ghost use Rattle.std.specs.Prelude.{◌≡◌, ℕ, ◌<◌, ◌^◌, true, Some, is_some, length, slice_index, All, IfOk};
 ghost use Rattle.placement.specs.graphs.Placed.{AreUnsetParts, IsUnsetPart, Setting, edge_number_at, is_own, own_datum};
-ghost use Rattle.placement.specs.graphs.Beginnings.{AllBegin, AreFirstNumbers, AreFreshTasks, BeginsWith, CanAllBegin, CanBegin, IsReadyPart, first_datum, ghost_datum};
+ghost use Rattle.placement.specs.graphs.Beginnings.{EachMachineStarts, AreFirstNumbers, AreFreshTasks, BeginsWith, CanEachMachineStart, CanBegin, IsReadyPart, first_datum, ghost_datum};
 
 use gl_base::{Base, Datum, EdgeNo, GhostLine, NoMemory, Vertex};
 use local_graph::LocalGraph;
@@ -49,9 +49,9 @@ pub fn first_numbers_of_all(
     base: &Base,
     window: Option<u32>,
 ) -> Result<Vec<Numbers>, NoMemory>
-    requires { CanAllBegin parts.items base.now }
+    requires { CanEachMachineStart parts.items base.now }
     ensures { (st : Setting) → AreUnsetParts st parts.items → BeginsWith st base.now →
-        IfOk result (λ all. AllBegin st window all.items) }
+        IfOk result (λ all. EachMachineStarts st window all.items) }
 {
     let mut all = Vec::with_capacity(alloc, parts.len())?;
     for local in parts {

@@ -28,7 +28,7 @@ use Rattle.store.specs.store_format.ReadBack.{NumbersFit}
 use Rattle.store.specs.store_format.StoredOrders.{entry_rank}
 use Rattle.recovery.specs.records.Keeping.{IsRecordBehind}
 use Rattle.call_laws.proofs.whole_calls.Calling.{the_call}
-use Rattle.call_laws.specs.whole_calls.Opened.{IsCourseOfCall}
+use Rattle.call_laws.specs.whole_calls.Opened.{IsTraceOfCall}
 use Rattle.call_laws.specs.whole_calls.Saved.{SaysOnce}
 use Rattle.recovery.proofs.record_form.AllSaved.{AreWhole, ArePartsOf, all_edges, all_in_order, all_saved, all_vertices}
 use Rattle.recovery.proofs.record_form.Formed.{is_body, record_fits}
@@ -51,7 +51,7 @@ less_bound : (t total bound : ℕ) → t < total → total < bound → t < bound
 less_bound t total bound low less = omega arith
 
 module _ (st : Setting) (failures : List FailureAt) (kept : List Entry) (resumed : Bool) (base : BaseView) (first : Cluster) (events : List Event) (c : Cluster)
-    (header : Header) (before : List Entry) (made : Record) (course : IsCourseOfCall st failures kept resumed base first events c) (due : RecordIsDue st c.coordinator)
+    (header : Header) (before : List Entry) (made : Record) (trace : IsTraceOfCall st failures kept resumed base first events c) (due : RecordIsDue st c.coordinator)
     (machines : header.machines ≡ st.machines) (n_is : header.n ≡ size st.graph) (m_is : header.m ≡ length st.graph.edges)
     (behind : IsRecordBehind st before c.base.order (snapshot_due c.coordinator) made) where
   abbrev parts : List SavedPart
@@ -66,15 +66,15 @@ module _ (st : Setting) (failures : List FailureAt) (kept : List Entry) (resumed
   -- ---- what was saved
 
   says : SaysOnce st (snapshot_due c.coordinator)
-  says = ((the_call st failures kept resumed base first events c course).5.pending due).4
+  says = ((the_call st failures kept resumed base first events c trace).5.pending due).4
 
   vertices_whole : AreWhole (size st.graph) st.machines (λ a. (sections a).vertices)
   vertices_whole =
       record {
-        inside = λ a v x low its. vertices_inside st failures kept resumed base first events c course due a v x low its;
+        inside = λ a v x low its. vertices_inside st failures kept resumed base first events c trace due a v x low its;
         there = λ v within.
             let its = says.some_vertex v within in
-            (st.owner v, its.0, course.is.owner v within, its.1);
+            (st.owner v, its.0, trace.is.owner v within, its.1);
         alone = λ a b v x y low_a low_b within one other.
             sym (says.vertices a v x low_a one) ∙ says.vertices b v y low_b other;
       }
@@ -82,9 +82,9 @@ module _ (st : Setting) (failures : List FailureAt) (kept : List Entry) (resumed
   edges_whole : AreWhole (length st.graph.edges) st.machines (λ a. (sections a).edges)
   edges_whole =
       record {
-        inside = λ a e x low its. edges_inside st failures kept resumed base first events c course due a e x low its;
+        inside = λ a e x low its. edges_inside st failures kept resumed base first events c trace due a e x low its;
         there = λ e within. says.some_edge e within;
-        alone = λ a b e x y low_a low_b within one other. edges_once st failures kept resumed base first events c course due a b e x y low_a low_b within one other;
+        alone = λ a b e x y low_a low_b within one other. edges_once st failures kept resumed base first events c trace due a b e x y low_a low_b within one other;
       }
 
   all_v : AreAll header.n (flat_map vertex_keys parts) []
@@ -114,7 +114,7 @@ module _ (st : Setting) (failures : List FailureAt) (kept : List Entry) (resumed
 
     update_taken : (entry : Entry) → IsOwnUpdate st entry → ticket_of entry < first.next + first.left → IsTaken header number entry
     update_taken (Go machine vertex ticket) own less = (
-      subst (λ (n : ℕ). machine.0 < n) (sym machines) (subst (λ (a : ℕ). a < st.machines) own.1 (course.is.owner vertex.0 own.0)),
+      subst (λ (n : ℕ). machine.0 < n) (sym machines) (subst (λ (a : ℕ). a < st.machines) own.1 (trace.is.owner vertex.0 own.0)),
       subst (λ (n : ℕ). vertex.0 < n) (sym n_is) own.0,
       less_bound ticket (first.next + first.left) (33554432 * number) less low,
     )
@@ -125,12 +125,12 @@ module _ (st : Setting) (failures : List FailureAt) (kept : List Entry) (resumed
         each-both (λ entry. is_restart entry ≡ true) (λ entry. ticket_of entry ≤ first.next + first.left) (IsTaken header number) restart_taken behind.missing behind.restarts
         (each-back (λ entry. ticket_of entry ≤ first.next + first.left) (filter is_restart before) behind.missing
         (subst (AllByRecursion (λ entry. ticket_of entry ≤ first.next + first.left)) (sym behind.lacks)
-        (filter_each (λ entry. ticket_of entry ≤ first.next + first.left) is_restart c.base.order (front_below st failures kept resumed base first events c course))))
+        (filter_each (λ entry. ticket_of entry ≤ first.next + first.left) is_restart c.base.order (front_below st failures kept resumed base first events c trace))))
 
     brought_taken : AllByRecursion (IsTaken header number) (entries_below st.machines (snapshot_due c.coordinator))
     brought_taken =
         each-both (IsOwnUpdate st) (λ entry. ticket_of entry < first.next + first.left) (IsTaken header number) update_taken (entries_below st.machines (snapshot_due c.coordinator))
-        (updates_owned st failures kept resumed base first events c course due) (updates_below st failures kept resumed base first events c course due)
+        (updates_owned st failures kept resumed base first events c trace due) (updates_below st failures kept resumed base first events c trace due)
 
     all_taken : AllByRecursion (IsTaken header number) made.entries.items
     all_taken =

@@ -36,13 +36,13 @@ use Rattle.store.proofs.store_format.ReadBackLemmas.{entries_of_record}
 use Rattle.recovery.specs.records.Keeping.{AreNextOrders, GoesWith, IsGoodStore, IsNextOrder, IsRecordBehind, KeepsUp, fronts_in, orders_behind, recorded_in, stored_order, with_entries}
 use Rattle.recovery.proofs.records.Saying.{edge_is, vertex_is}
 use Rattle.recovery.proofs.records.Sorting.{put_is}
-use Rattle.call_laws.specs.whole_calls.Opened.{IsCourseOfCall}
+use Rattle.call_laws.specs.whole_calls.Opened.{IsTraceOfCall}
 use Rattle.call_laws.specs.whole_calls.Saved.{IsSnapshotOf, MayFollow, SaysOnce}
 use Rattle.call_laws.proofs.whole_calls.Calling.{the_call, the_return}
 use Rattle.call_laws.proofs.whole_calls.Fronting.{attempt_restarts, filtered, next_once, without}
 use Rattle.call_laws.specs.whole_calls.Called.{IsCallOf}
 use Rattle.call_laws.specs.whole_calls.Following.{has_reached}
-use Rattle.call_laws.specs.whole_calls.Opened.{IsCourseOfCall}
+use Rattle.call_laws.specs.whole_calls.Opened.{IsTraceOfCall}
 use Rattle.call_laws.specs.whole_calls.Saved.{IsSnapshotOf, MayFollow, SaysOnce}
 use Rattle.seq_run.specs.Orders.{replay}
 
@@ -89,7 +89,7 @@ only_restarts (Go machine vertex ticket ∷ es) all = absurd (apart all.0)
 only_restarts (Restart ticket ∷ es) all = ap (λ (rest : List Entry). Restart ticket ∷ rest) (only_restarts es all.1)
 
 module _ (st : Setting) (failures : List FailureAt) (kept : List Entry) (resumed : Bool) (base : BaseView) (first : Cluster) (events : List Event) (c : Cluster)
-    (course : IsCourseOfCall st failures kept resumed base first events c) (header : Header) (start bodies : List (List ℕ)) (kept_is : kept ≡ stored_order start)
+    (trace : IsTraceOfCall st failures kept resumed base first events c) (header : Header) (start bodies : List (List ℕ)) (kept_is : kept ≡ stored_order start)
     (keeps : KeepsUp st failures header start (fronts_in (going_on st base.numbers base.number) (recovers st base first) events) (recorded_in (going_on st base.numbers base.number) (recovers st base first) events) bodies)
     (due : RecordIsDue st c.coordinator) (made : Record) (is : IsRecordBehind st (stored_order bodies) c.base.order (snapshot_due c.coordinator) made) where
   abbrev shared : Shared
@@ -111,21 +111,21 @@ module _ (st : Setting) (failures : List FailureAt) (kept : List Entry) (resumed
   before = stored_order bodies
 
   abbrev law_call : EngineCall
-  law_call = (the_call st failures kept resumed base first events c course).0
+  law_call = (the_call st failures kept resumed base first events c trace).0
 
   its : IsCallOf st failures kept resumed c law_call
-  its = (the_call st failures kept resumed base first events c course).1
+  its = (the_call st failures kept resumed base first events c trace).1
 
   call_is : IsEngineCall shared law_call
   call_is = its.is
 
   pub pending : MayFollow st c.coordinator law_call
-  pending = (the_call st failures kept resumed base first events c course).5.pending due
+  pending = (the_call st failures kept resumed base first events c trace).5.pending due
 
   -- the store's orders are those of the call's snapshots
   orders_are : snapshots_of law_call ≡ orders_behind (stored_order start) keeps.added
   orders_are =
-      next_once st kept fronts taken (snapshots_of law_call) (orders_behind (stored_order start) keeps.added) (the_call st failures kept resumed base first events c course).7
+      next_once st kept fronts taken (snapshots_of law_call) (orders_behind (stored_order start) keeps.added) (the_call st failures kept resumed base first events c trace).7
       (subst (λ (order : List Entry). AreNextOrders st order fronts taken (orders_behind (stored_order start) keeps.added)) (sym kept_is) keeps.orders)
 
   store_is : stored_orders bodies ≡ stored_orders start ++ snapshots_of law_call
@@ -186,7 +186,7 @@ module _ (st : Setting) (failures : List FailureAt) (kept : List Entry) (resumed
   pub goes_with : GoesWith shared bodies made
   goes_with =
       let says : SaysOnce st snapshot = pending.4 in
-      let owner : (v : ℕ) → v < size st.graph → st.owner v < st.machines = λ v low. course.is.owner v low in
+      let owner : (v : ℕ) → v < size st.graph → st.owner v < st.machines = λ v low. trace.is.owner v low in
       record {
         orders = subst (λ (os : List (List Entry)). AreGoodOrders shared os)
             (sym (append_assoc (stored_orders start) (snapshots_of law_call) (order ∷ [])) ∙ ap₂ (λ (os : List (List Entry)) (o : List Entry). os ++ o ∷ []) (sym store_is) (sym put_order)) with_order;
@@ -241,7 +241,7 @@ orders_long order [] = refl
 orders_long order (body ∷ bodies) = ap suc (orders_long (with_entries order (body_entries body)) bodies)
 
 module _ (st : Setting) (failures : List FailureAt) (kept : List Entry) (resumed : Bool) (base : BaseView) (first : Cluster) (events : List Event) (c : Cluster)
-    (course : IsCourseOfCall st failures kept resumed base first events c) (header : Header) (start bodies : List (List ℕ)) (kept_is : kept ≡ stored_order start) (number : base.number ≡ length start)
+    (trace : IsTraceOfCall st failures kept resumed base first events c) (header : Header) (start bodies : List (List ℕ)) (kept_is : kept ≡ stored_order start) (number : base.number ≡ length start)
     (keeps : KeepsUp st failures header start (fronts_in (going_on st base.numbers base.number) (recovers st base first) events) (recorded_in (going_on st base.numbers base.number) (recovers st base first) events) bodies)
     (some : 0 < failures_in st c) (all : (a : ℕ) → a < st.machines → has_reached failures c a ≡ true → (c.machine a).failed ≡ true) where
   pub comes_from : (missing : List Entry) → filter is_restart (stored_order bodies) ++ missing ≡ filter is_restart c.base.order ++ restarts (failures_in st c) c.next →
@@ -254,7 +254,7 @@ module _ (st : Setting) (failures : List FailureAt) (kept : List Entry) (resumed
       let taken : List Snapshot = recorded_in (going_on st base.numbers base.number) (recovers st base first) events in
       let last : last_order kept orders ≡ stored_order bodies =
       ap (λ (os : List Entry). last_order os orders) kept_is ∙ last_behind (stored_order start) keeps.added ∙ sym (order_append [] start keeps.added) ∙ ap stored_order (sym keeps.stored) in
-      let back = the_return st failures kept resumed base first events c course some all orders missing (subst (λ (os : List Entry). AreNextOrders st os fronts taken orders) (sym kept_is) keeps.orders)
+      let back = the_return st failures kept resumed base first events c trace some all orders missing (subst (λ (os : List Entry). AreNextOrders st os fronts taken orders) (sym kept_is) keeps.orders)
       (ap (λ (os : List Entry). filter is_restart os ++ missing) last ∙ lacks) in (
         back.0,
         back.2

@@ -23,7 +23,7 @@ use Rattle.recovery.specs.records.Keeping.{AreNextOrders, KeepsUp, fronts_in, or
 use Rattle.call_laws.proofs.whole_calls.Calling.{the_call}
 use Rattle.call_laws.proofs.whole_calls.Fronting.{HaveRestartsOf, attempt_restarts, next_once}
 use Rattle.call_laws.specs.whole_calls.Called.{IsCallOf}
-use Rattle.call_laws.specs.whole_calls.Opened.{IsCourseOfCall}
+use Rattle.call_laws.specs.whole_calls.Opened.{IsTraceOfCall}
 use Rattle.recovery.specs.restarts.Missing.{Begins, Setting, is_restart}
 
 order_append : (order : List Entry) (xs ys : List (List ℕ)) → order_behind order (xs ++ ys) ≡ order_behind (order_behind order xs) ys
@@ -51,7 +51,7 @@ call_begins shared call is =
     (resumed_begins early b.front (call_back shared call is)))
 
 module _ (st : Setting) (failures : List FailureAt) (kept : List Entry) (resumed : Bool) (base : BaseView) (first : Cluster) (events : List Event) (c : Cluster)
-    (course : IsCourseOfCall st failures kept resumed base first events c) (header : Header) (start bodies : List (List ℕ)) (kept_is : kept ≡ stored_order start)
+    (trace : IsTraceOfCall st failures kept resumed base first events c) (header : Header) (start bodies : List (List ℕ)) (kept_is : kept ≡ stored_order start)
     (keeps : KeepsUp st failures header start (fronts_in (going_on st base.numbers base.number) (recovers st base first) events) (recorded_in (going_on st base.numbers base.number) (recovers st base first) events) bodies) where
   abbrev fronts : List (List Entry)
   fronts = fronts_in (going_on st base.numbers base.number) (recovers st base first) events
@@ -60,15 +60,15 @@ module _ (st : Setting) (failures : List FailureAt) (kept : List Entry) (resumed
   taken = recorded_in (going_on st base.numbers base.number) (recovers st base first) events
 
   abbrev law_call : EngineCall
-  law_call = (the_call st failures kept resumed base first events c course).0
+  law_call = (the_call st failures kept resumed base first events c trace).0
 
   its : IsCallOf st failures kept resumed c law_call
-  its = (the_call st failures kept resumed base first events c course).1
+  its = (the_call st failures kept resumed base first events c trace).1
 
   -- the store's orders are those of the call's snapshots
   orders_are : snapshots_of law_call ≡ orders_behind (stored_order start) keeps.added
   orders_are =
-      next_once st kept fronts taken (snapshots_of law_call) (orders_behind (stored_order start) keeps.added) (the_call st failures kept resumed base first events c course).7
+      next_once st kept fronts taken (snapshots_of law_call) (orders_behind (stored_order start) keeps.added) (the_call st failures kept resumed base first events c trace).7
       (subst (λ (order : List Entry). AreNextOrders st order fronts taken (orders_behind (stored_order start) keeps.added)) (sym kept_is) keeps.orders)
 
   last_is : stored_order bodies ≡ last_order law_call.base (snapshots_of law_call)

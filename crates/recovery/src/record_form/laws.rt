@@ -18,7 +18,7 @@ ghost use Rattle.store.specs.store_format.ReadBack.{NumbersFit};
 ghost use Rattle.store.specs.store_format.StoredOrders.{entry_rank, stored_order};
 ghost use Rattle.store.specs.store_format.Stores.{stored_in};
 ghost use Rattle.recovery.specs.records.Keeping.{IsRecordBehind};
-ghost use Rattle.call_laws.specs.whole_calls.Opened.{IsCourseOfCall};
+ghost use Rattle.call_laws.specs.whole_calls.Opened.{IsTraceOfCall};
 
 /// The record of a snapshot that is due in the course of a call, with the restarts that a store
 /// lacks and with its entries in their turn, is in the form of a store of this graph on these
@@ -28,7 +28,7 @@ pub fn due_records_are_in_form()
     ensures fits { (st : Setting) (failures : List FailureAt) (kept : List Entry) (resumed : Bool)
         (base : BaseView) (first : Cluster) (events : List Event) (c : Cluster)
         (header : Header) (before : List Entry) (made : Record) →
-        IsCourseOfCall st failures kept resumed base first events c → RecordIsDue st c.coordinator →
+        IsTraceOfCall st failures kept resumed base first events c → RecordIsDue st c.coordinator →
         header.machines ≡ st.machines → header.n ≡ size st.graph →
         header.m ≡ length st.graph.edges →
         IsRecordBehind st before c.base.order (snapshot_due c.coordinator) made →
@@ -37,7 +37,7 @@ pub fn due_records_are_in_form()
     ensures form { (st : Setting) (failures : List FailureAt) (kept : List Entry) (resumed : Bool)
         (base : BaseView) (first : Cluster) (events : List Event) (c : Cluster)
         (header : Header) (before : List Entry) (made : Record) →
-        IsCourseOfCall st failures kept resumed base first events c → RecordIsDue st c.coordinator →
+        IsTraceOfCall st failures kept resumed base first events c → RecordIsDue st c.coordinator →
         header.machines ≡ st.machines → header.n ≡ size st.graph →
         header.m ≡ length st.graph.edges →
         IsRecordBehind st before c.base.order (snapshot_due c.coordinator) made →

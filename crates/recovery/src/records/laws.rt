@@ -18,7 +18,7 @@ ghost use Rattle.call_laws.specs.whole_calls.Following.{has_reached};
 ghost use Rattle.recovery.specs.Journals.{IsBeforeOrAfter, NumbersFit, RecordFits, body_bytes, stored_in};
 ghost use Rattle.store.specs.declared.store_format.header.Header.{Header};
 ghost use Rattle.recovery.specs.records.Keeping.{GoesWith, IsGoodStore, IsNextOrder, IsRecordBehind, KeepsUp, fronts_in, recorded_in, stored_order, with_entries};
-ghost use Rattle.call_laws.specs.whole_calls.Opened.{IsCourseOfCall};
+ghost use Rattle.call_laws.specs.whole_calls.Opened.{IsTraceOfCall};
 
 /// A good store keeps up as the call opens. Where a record is due and is added, it keeps up with
 /// that snapshot too.
@@ -29,7 +29,7 @@ pub fn stores_keep_up()
     ensures grows { (st : Setting) (failures : List FailureAt) (kept : List Entry) (resumed : Bool)
         (base : BaseView) (first : Cluster) (events : List Event) (c : Cluster)
         (header : Header) (start bodies : List (List ℕ)) (made : Record) →
-        IsCourseOfCall st failures kept resumed base first events c → kept ≡ stored_order start →
+        IsTraceOfCall st failures kept resumed base first events c → kept ≡ stored_order start →
         KeepsUp st failures header start
         (fronts_in (going_on st base.numbers base.number) (recovers st base first) events)
         (recorded_in (going_on st base.numbers base.number) (recovers st base first) events)
@@ -50,7 +50,7 @@ pub fn records_go_with_stores()
     ensures goes { (st : Setting) (failures : List FailureAt) (kept : List Entry) (resumed : Bool)
         (base : BaseView) (first : Cluster) (events : List Event) (c : Cluster)
         (header : Header) (start bodies : List (List ℕ)) (made : Record) →
-        IsCourseOfCall st failures kept resumed base first events c → kept ≡ stored_order start →
+        IsTraceOfCall st failures kept resumed base first events c → kept ≡ stored_order start →
         KeepsUp st failures header start
         (fronts_in (going_on st base.numbers base.number) (recovers st base first) events)
         (recorded_in (going_on st base.numbers base.number) (recovers st base first) events)
@@ -61,7 +61,7 @@ pub fn records_go_with_stores()
     ensures images { (st : Setting) (failures : List FailureAt) (kept : List Entry) (resumed : Bool)
         (base : BaseView) (first : Cluster) (events : List Event) (c : Cluster)
         (header : Header) (start bodies : List (List ℕ)) (made : Record) (image : List ℕ) →
-        IsCourseOfCall st failures kept resumed base first events c → kept ≡ stored_order start →
+        IsTraceOfCall st failures kept resumed base first events c → kept ≡ stored_order start →
         KeepsUp st failures header start
         (fronts_in (going_on st base.numbers base.number) (recovers st base first) events)
         (recorded_in (going_on st base.numbers base.number) (recovers st base first) events)
@@ -80,7 +80,7 @@ pub fn recoveries_come_from_stores()
     ensures { (st : Setting) (failures : List FailureAt) (kept : List Entry) (resumed : Bool)
         (base : BaseView) (first : Cluster) (events : List Event) (c : Cluster)
         (header : Header) (start bodies : List (List ℕ)) (missing : List Entry) →
-        IsCourseOfCall st failures kept resumed base first events c → kept ≡ stored_order start →
+        IsTraceOfCall st failures kept resumed base first events c → kept ≡ stored_order start →
         base.number ≡ length start →
         KeepsUp st failures header start
         (fronts_in (going_on st base.numbers base.number) (recovers st base first) events)

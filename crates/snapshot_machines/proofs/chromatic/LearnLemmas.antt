@@ -13,7 +13,7 @@ use Rattle.cluster_laws.specs.cluster_core.Scopes.{is_found}
 use Rattle.cluster_laws.proofs.cluster_core.Basics.{first_passing-some}
 use Rattle.partition.proofs.local_parts.FoundLemmas.{found_first}
 use Rattle.wire.specs.declared.wire_msgs.messages.Done.{Done}
-use Rattle.partition.specs.machine_numbers.Views.{LocalView, flag_there, is_flagged, is_named, news_of, place_at}
+use Rattle.partition.specs.machine_numbers.Views.{LocalView, flag_there, is_flagged, is_in_update, news_of, place_at}
 use Rattle.machine_core.specs.declared.machine_parts.cores.Core.{Core}
 use Rattle.snapshot_machines.specs.marking.Learning.{HasLearnedNews}
 use Rattle.machine_core.specs.color_parts.Enlisting.{HasEnlisted}
@@ -100,13 +100,13 @@ module _ (m new : Core) (w now : SnapView) (before : Part) (done : Done) (st : S
   there : (j : ℕ) (u : Vertex) → place_at m.numbers.local u.0 ≡ Some j → place_at new.numbers.local u.0 ≡ Some j
   there j u at = ap (λ (l : LocalView). place_at l u.0) local ∙ at
 
-  task_flag : (j : ℕ) (u : Vertex) → place_at m.numbers.local u.0 ≡ Some j → is_flagged new.numbers.tasks.task j ≡ (is_named done.wakes.items u.0 || is_flagged m.numbers.tasks.task j)
+  task_flag : (j : ℕ) (u : Vertex) → place_at m.numbers.local u.0 ≡ Some j → is_flagged new.numbers.tasks.task j ≡ (is_in_update done.wakes.items u.0 || is_flagged m.numbers.tasks.task j)
   task_flag j u at =
-      sym (ap (flag_there new.numbers.tasks.task) (there j u at)) ∙ ap (λ (p : Part). p.task u.0) part_now ∙ ap (λ (b : Bool). is_named done.wakes.items u.0 || b) (ap (flag_there m.numbers.tasks.task) at)
+      sym (ap (flag_there new.numbers.tasks.task) (there j u at)) ∙ ap (λ (p : Part). p.task u.0) part_now ∙ ap (λ (b : Bool). is_in_update done.wakes.items u.0 || b) (ap (flag_there m.numbers.tasks.task) at)
 
-  pending_flag : (j : ℕ) (u : Vertex) → place_at m.numbers.local u.0 ≡ Some j → is_flagged new.numbers.tasks.pending j ≡ (is_named done.pends.items u.0 || is_flagged m.numbers.tasks.pending j)
+  pending_flag : (j : ℕ) (u : Vertex) → place_at m.numbers.local u.0 ≡ Some j → is_flagged new.numbers.tasks.pending j ≡ (is_in_update done.pends.items u.0 || is_flagged m.numbers.tasks.pending j)
   pending_flag j u at =
-      sym (ap (flag_there new.numbers.tasks.pending) (there j u at)) ∙ ap (λ (p : Part). p.pending u.0) part_now ∙ ap (λ (b : Bool). is_named done.pends.items u.0 || b) (ap (flag_there m.numbers.tasks.pending) at)
+      sym (ap (flag_there new.numbers.tasks.pending) (there j u at)) ∙ ap (λ (p : Part). p.pending u.0) part_now ∙ ap (λ (b : Bool). is_in_update done.pends.items u.0 || b) (ap (flag_there m.numbers.tasks.pending) at)
 
   pub learned_in_line : (lines asked new_lines new_asked : LinesView) → AreBothInLine m.numbers.tasks lines asked → new_lines.colours ≡ lines.colours → new_asked.colours ≡ asked.colours
       → HasEnlisted All m.numbers lines new_lines done.wakes.items (length done.wakes.items) → HasEnlisted All m.numbers asked new_asked done.pends.items (length done.pends.items) → AreBothInLine new.numbers.tasks new_lines new_asked

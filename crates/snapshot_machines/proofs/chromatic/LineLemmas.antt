@@ -7,7 +7,7 @@ use Rattle.gl_base.specs.declared.numbers.Vertex.{Vertex}
 use Rattle.cluster_laws.specs.cluster_core.Effects.{is_at}
 use Rattle.cluster_laws.proofs.cluster_core.Basics.{same_truth}
 use Rattle.partition.specs.declared.machine_numbers.keeping.Numbers.{Numbers}
-use Rattle.partition.specs.machine_numbers.Views.{LocalView, is_flagged, is_named, place_at}
+use Rattle.partition.specs.machine_numbers.Views.{LocalView, is_flagged, is_in_update, place_at}
 use Rattle.machine_core.proofs.machine_scopes.HeldLemmas.{stands_in}
 use Rattle.machine_core.specs.color_parts.Enlisting.{HasEnlisted, is_such, is_free_such}
 use Rattle.machine_core.specs.declared.color_parts.enlisting.Which.{Which}
@@ -46,18 +46,18 @@ other_place l count who u v k p here there off same = off (some_is k p (sym here
 
 -- these are so too now: they stood in line where they were not admitted, before they were so
 module _ (which : Which) (n : Numbers) (t : TasksView) (old new : LinesView) (ws : List Vertex) (who : StandApart n.local (length n.tasks.task)) (many : length t.task ≡ length n.tasks.task) (flags : t.admitted ≡ n.tasks.admitted)
-    (flag : (k : ℕ) (v : Vertex) → place_at n.local v.0 ≡ Some k → is_such which t k ≡ (is_named ws v.0 || is_such which n.tasks k)) (was : AreJustInLine which n.tasks old) (enlisted : HasEnlisted All n old new ws (length ws)) where
+    (flag : (k : ℕ) (v : Vertex) → place_at n.local v.0 ≡ Some k → is_such which t k ≡ (is_in_update ws v.0 || is_such which n.tasks k)) (was : AreJustInLine which n.tasks old) (enlisted : HasEnlisted All n old new ws (length ws)) where
   admitted : (k : ℕ) → is_flagged t.admitted k ≡ is_flagged n.tasks.admitted k
   admitted k = ap (λ (fs : List Bool). is_flagged fs k) flags
 
-  named : (i k : ℕ) (v : Vertex) → i < length ws → ((d : Vertex) → place_at n.local (get_or ws i d).0 ≡ Some k) → place_at n.local v.0 ≡ Some k → is_named ws v.0 ≡ true
+  named : (i k : ℕ) (v : Vertex) → i < length ws → ((d : Vertex) → place_at n.local (get_or ws i d).0 ≡ Some k) → place_at n.local v.0 ≡ Some k → is_in_update ws v.0 ≡ true
   named i k v low here at =
       let same : (get_or ws i v).0 ≡ v.0 = who.apart (get_or ws i v).0 v.0 k (here v) at in
       named_at ws i v low same
     where
-      named_at : (ws : List Vertex) (i : ℕ) (v : Vertex) → i < length ws → (get_or ws i v).0 ≡ v.0 → is_named ws v.0 ≡ true
+      named_at : (ws : List Vertex) (i : ℕ) (v : Vertex) → i < length ws → (get_or ws i v).0 ≡ v.0 → is_in_update ws v.0 ≡ true
       named_at [] i v low same = absurd (omega arith)
-      named_at (w ∷ ws) zero v low same = ap (λ (b : Bool). b || is_named ws v.0) (eq-eqb w.0 v.0 same)
+      named_at (w ∷ ws) zero v low same = ap (λ (b : Bool). b || is_in_update ws v.0) (eq-eqb w.0 v.0 same)
       named_at (w ∷ ws) (suc i) v low same = ap (λ (b : Bool). w.0 == v.0 || b) (named_at ws i v (omega arith) same) ∙ or-true (w.0 == v.0)
 
   sound : (k : ℕ) → k < length t.task → is_in_line new k ≡ true → is_free_such which t k ≡ true
@@ -66,7 +66,7 @@ module _ (which : Which) (n : Numbers) (t : TasksView) (old new : LinesView) (ws
       elim (enlisted.free k now) [
         | inl stood ↦
             let parts = due_parts which n.tasks k (sym (was k (omega (arith, low, many))) ∙ stood) in
-            due_from which t k (flag k v.0 v.1 ∙ ap (λ (b : Bool). is_named ws v.0.0 || b) parts.0 ∙ or-true (is_named ws v.0.0)) (admitted k ∙ parts.1)
+            due_from which t k (flag k v.0 v.1 ∙ ap (λ (b : Bool). is_in_update ws v.0.0 || b) parts.0 ∙ or-true (is_in_update ws v.0.0)) (admitted k ∙ parts.1)
         | inr both ↦
             let among = both.0 in
             due_from which t k
@@ -80,7 +80,7 @@ module _ (which : Which) (n : Numbers) (t : TasksView) (old new : LinesView) (ws
       let v = who.stands k inside in
       let parts = due_parts which t k due in
       let clear : is_flagged n.tasks.admitted k ≡ false = sym (admitted k) ∙ parts.1 in
-      elim (or_cases (is_named ws v.0.0) (is_such which n.tasks k) (sym (flag k v.0 v.1) ∙ parts.0)) [
+      elim (or_cases (is_in_update ws v.0.0) (is_such which n.tasks k) (sym (flag k v.0 v.1) ∙ parts.0)) [
         | inl named_one ↦
             let at = stands_in ws v.0.0 named_one in
             let same : get_or ws at.0 v.0 ≡ record { 0 = v.0.0 } = get_or_from_slice_get ws at.0 (record { 0 = v.0.0 }) v.0 at.1 in

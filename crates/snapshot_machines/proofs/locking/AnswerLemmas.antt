@@ -32,7 +32,7 @@ use Rattle.wire.specs.declared.wire_msgs.messages.Message as message
 use Rattle.wire.specs.declared.wire_msgs.messages.Message.TheVariants as sent
 use Rattle.snapshot_machines.specs.locking.Reports.{ReportsView, with_report}
 use Rattle.snapshot_machines.specs.locking.Asking.{HasToldCounts, HasWanted, with_wish}
-use Rattle.snapshot_machines.specs.locking.Savers.{CountsView, IsPartOf, IsSaverOf, SaverView, Setting, part_of}
+use Rattle.snapshot_machines.specs.locking.Machines.{CountsView, IsPartOf, IsLockingMachineOf, LockingMachineView, Setting, part_of}
 use Rattle.snapshot_machines.proofs.locking.StandLemmas.{reports_stand}
 use Rattle.snapshot_machines.proofs.locking.ScopeLemmas.{to_now}
 use Rattle.snapshot_machines.proofs.locking.MarkLemmas.{can_not_send, can_send, section_sent}
@@ -92,7 +92,7 @@ mark_home m s orderly may = (orderly.flights.given s (record { 0 = may.vertex })
 
 -- ---- what is asked for
 
-module _ {P : Type 0} (x : SaverView P) (now : SnapMachineView P) (kept : now.kept ≡ with_asking ((x.window + 1) / 2) x.machine.kept) (core : now.core ≡ x.machine.core) (program : now.program ≡ x.machine.program) where
+module _ {P : Type 0} (x : LockingMachineView P) (now : SnapMachineView P) (kept : now.kept ≡ with_asking ((x.window + 1) / 2) x.machine.kept) (core : now.core ≡ x.machine.core) (program : now.program ≡ x.machine.program) where
   pub asked_some : (k : ℕ) (reports : ReportsView) → Some k ≡ asked_behind ((x.window + 1) / 2) x.machine.kept → reports ≡ with_report (wire.Want k) x.reports → HasWanted x (record x { machine = now; reports = reports })
   asked_some k reports some told = λ i. record x { machine = record { core = core i; kept = kept i; program = program i }; reports = (told ∙ ap (λ (o : Option ℕ). with_wish o x.reports) some) i }
 
@@ -107,7 +107,7 @@ same_some x y is = cc
 none_some : {X : Type 0} (x : X) → None ≡ Some x → ⊥
 none_some x is = cc
 
-module _ {P : Type 0} (x : SaverView P) (held counts : CountsView) (wave sent_count updates : ℕ) (idle : Bool) (result : Option WaveAnswer) (holds : held ≡ record x.counts { held = Some wave }) (answers : HasAnsweredWave held counts true sent_count updates idle result)
+module _ {P : Type 0} (x : LockingMachineView P) (held counts : CountsView) (wave sent_count updates : ℕ) (idle : Bool) (result : Option WaveAnswer) (holds : held ≡ record x.counts { held = Some wave }) (answers : HasAnsweredWave held counts true sent_count updates idle result)
     (made : updates ≡ length x.machine.core.numbers.log.items) (rests : (st : Setting) → IsPartOf st x.machine.core → idle ≡ is_idle st (part_of x.machine.core)) where
   abbrev told_answer : WaveAnswer
   told_answer = record { wave = wave; counted = record { sent = sent_count; received = x.counts.received; updates = length x.machine.core.numbers.log.items; idle = idle } }
@@ -134,12 +134,12 @@ module _ {P : Type 0} (x : SaverView P) (held counts : CountsView) (wave sent_co
 
 -- ---- the same machine
 
-pub machine_stands : {P : Type 0} (meaning : P → Update) (x : SaverView P) (now : SnapMachineView P) (reports : ReportsView) → now ≡ x.machine → reports.messages ≡ x.reports.messages → StandsStill (IsSaverOf meaning) x (record x { machine = now; reports = reports })
-machine_stands {P} meaning x now reports same told = subst (λ (m : SnapMachineView P). StandsStill (IsSaverOf meaning) x (record x { machine = m; reports = reports })) (sym same) (reports_stand meaning x reports told)
+pub machine_stands : {P : Type 0} (meaning : P → Update) (x : LockingMachineView P) (now : SnapMachineView P) (reports : ReportsView) → now ≡ x.machine → reports.messages ≡ x.reports.messages → StandsStill (IsLockingMachineOf meaning) x (record x { machine = now; reports = reports })
+machine_stands {P} meaning x now reports same told = subst (λ (m : SnapMachineView P). StandsStill (IsLockingMachineOf meaning) x (record x { machine = m; reports = reports })) (sym same) (reports_stand meaning x reports told)
 
 -- ---- sections
 
-module _ {P : Type 0} (meaning : P → Update) (x : SaverView P) (seen now : SnapMachineView P) (same : seen ≡ x.machine) where
+module _ {P : Type 0} (meaning : P → Update) (x : LockingMachineView P) (seen now : SnapMachineView P) (same : seen ≡ x.machine) where
   pub section_may : MaySendSection seen.core seen.kept → MaySendSection x.machine.core x.machine.kept
   section_may may = subst (λ (m : SnapMachineView P). MaySendSection m.core m.kept) same may
 
@@ -148,64 +148,64 @@ module _ {P : Type 0} (meaning : P → Update) (x : SaverView P) (seen now : Sna
 
   module _ (core : now.core ≡ seen.core) (program : now.program ≡ seen.program) where
     pub section_now : (roomy told : ReportsView) (section : SectionView) → MaySendSection seen.core seen.kept → IsSameButRoom (with_section seen.kept) now.kept → section ≡ own_section seen.kept → roomy.messages ≡ x.reports.messages
-        → told ≡ with_report (wire.Section section) roomy → HasDone (IsSaverOf meaning) x SectionDeed (record x { machine = now; reports = told })
+        → told ≡ with_report (wire.Section section) roomy → HasDone (IsLockingMachineOf meaning) x SectionDeed (record x { machine = now; reports = told })
     section_now roomy told section may after saved room put =
         let sent_one = subst (λ (m : SnapMachineView P). IsSameButRoom (with_section m.kept) now.kept) same after in
         let messages : told.messages ≡ x.reports.messages ++ wire.Section (own_section x.machine.kept) ∷ [] =
         ap (λ (r : ReportsView). r.messages) put
         ∙ (λ i. room i ++ wire.Section ((saved ∙ ap (λ (m : SnapMachineView P). own_section m.kept) same) i) ∷ []) in
-        subst (HasDone (IsSaverOf meaning) x SectionDeed) (λ i. record x {
+        subst (HasDone (IsLockingMachineOf meaning) x SectionDeed) (λ i. record x {
           machine = record { core = sym (core ∙ ap (λ (m : SnapMachineView P). m.core) same) i; kept = now.kept; program = sym (program ∙ ap (λ (m : SnapMachineView P). m.program) same) i };
           reports = told;
         })
         (section_sent meaning x now.kept told (section_may may) sent_one messages)
 
-    pub section_back : (roomy : ReportsView) → now.kept ≡ seen.kept → roomy.messages ≡ x.reports.messages → StandsStill (IsSaverOf meaning) x (record x { machine = now; reports = roomy })
+    pub section_back : (roomy : ReportsView) → now.kept ≡ seen.kept → roomy.messages ≡ x.reports.messages → StandsStill (IsLockingMachineOf meaning) x (record x { machine = now; reports = roomy })
     section_back roomy kept room = machine_stands meaning x now roomy ((λ i. record { core = core i; kept = kept i; program = program i }) ∙ same) room
 
-  pub section_due : (b : Bool) → (b ≡ true → MaySendSection x.machine.core x.machine.kept) → (b ≡ false → MayNotSendSection x.machine.core x.machine.kept) → OfEach (IsSaverOf meaning) x (λ st a m. (b ≡ true) ↔ MayBeDone st a m SectionDeed)
+  pub section_due : (b : Bool) → (b ≡ true → MaySendSection x.machine.core x.machine.kept) → (b ≡ false → MayNotSendSection x.machine.core x.machine.kept) → OfEach (IsLockingMachineOf meaning) x (λ st a m. (b ≡ true) ↔ MayBeDone st a m SectionDeed)
   section_due true can cannot st a m snap is = (λ due. can_send meaning x (can refl) st a m snap is, λ may. refl)
   section_due false can cannot st a m snap is = (λ due. absurd (true≢false (sym due)), λ may. absurd (can_not_send meaning x (cannot refl) st a m snap is may))
 
 -- ---- what comes from other machines
 
-module _ {P : Type 0} (meaning : P → Update) (x y : SaverView P) (seen : x ≡ y) (p : ℕ) (orderly : IsOrderly x.machine.core) where
-  pub ask_can : (s : ScopeId) (centre : Vertex) (rest : Vec MachineNo Global) → MayReceiveFirst (IsSaverOf meaning) y p (sent.Ask s centre rest) → IsNewAt x.machine.core s centre × AreMachinesFor x.machine.core s rest.items
-  ask_can s centre rest may = ask_new meaning x p orderly s centre rest (subst (λ (z : SaverView P). MayReceiveFirst (IsSaverOf meaning) z p (sent.Ask s centre rest)) (sym seen) may)
+module _ {P : Type 0} (meaning : P → Update) (x y : LockingMachineView P) (seen : x ≡ y) (p : ℕ) (orderly : IsOrderly x.machine.core) where
+  pub ask_can : (s : ScopeId) (centre : Vertex) (rest : Vec MachineNo Global) → MayReceiveFirst (IsLockingMachineOf meaning) y p (sent.Ask s centre rest) → IsNewAt x.machine.core s centre × AreMachinesFor x.machine.core s rest.items
+  ask_can s centre rest may = ask_new meaning x p orderly s centre rest (subst (λ (z : LockingMachineView P). MayReceiveFirst (IsLockingMachineOf meaning) z p (sent.Ask s centre rest)) (sym seen) may)
 
-  pub ready_can : (s : ScopeId) → MayReceiveFirst (IsSaverOf meaning) y p (sent.Ready s) → CanBecomeReady x.machine.core s
-  ready_can s may = ready_home meaning x p orderly s (subst (λ (z : SaverView P). MayReceiveFirst (IsSaverOf meaning) z p (sent.Ready s)) (sym seen) may)
+  pub ready_can : (s : ScopeId) → MayReceiveFirst (IsLockingMachineOf meaning) y p (sent.Ready s) → CanBecomeReady x.machine.core s
+  ready_can s may = ready_home meaning x p orderly s (subst (λ (z : LockingMachineView P). MayReceiveFirst (IsLockingMachineOf meaning) z p (sent.Ready s)) (sym seen) may)
 
-  pub done_can : (done : word.Done) → MayReceiveFirst (IsSaverOf meaning) y p (sent.Done done) → CanLearnNews x.machine.core done
-  done_can done may = done_learned meaning x p orderly done (subst (λ (z : SaverView P). MayReceiveFirst (IsSaverOf meaning) z p (sent.Done done)) (sym seen) may)
+  pub done_can : (done : word.Done) → MayReceiveFirst (IsLockingMachineOf meaning) y p (sent.Done done) → CanLearnNews x.machine.core done
+  done_can done may = done_learned meaning x p orderly done (subst (λ (z : LockingMachineView P). MayReceiveFirst (IsLockingMachineOf meaning) z p (sent.Done done)) (sym seen) may)
 
-module _ {P : Type 0} (meaning : P → Update) (x : SaverView P) (now : SnapMachineView P) (counts : CountsView) (kept : now.kept ≡ x.machine.kept) (program : now.program ≡ x.machine.program) (settings : SameSettings x.machine.core now.core)
+module _ {P : Type 0} (meaning : P → Update) (x : LockingMachineView P) (now : SnapMachineView P) (counts : CountsView) (kept : now.kept ≡ x.machine.kept) (program : now.program ≡ x.machine.program) (settings : SameSettings x.machine.core now.core)
     (numbers : now.core.numbers ≡ x.machine.core.numbers) (counted : counts ≡ record x.counts { received = one_more x.counts.received }) (p : ℕ) where
-  pub ask_now : (s : ScopeId) (centre : Vertex) (rest : Vec MachineNo Global) → HasReceivedMessage x.machine.core now.core (Ask s centre.0 (machine_numbers rest.items)) → HasReceived (IsSaverOf meaning) x p (sent.Ask s centre rest) (record x { machine = now; counts = counts })
+  pub ask_now : (s : ScopeId) (centre : Vertex) (rest : Vec MachineNo Global) → HasReceivedMessage x.machine.core now.core (Ask s centre.0 (machine_numbers rest.items)) → HasReceived (IsLockingMachineOf meaning) x p (sent.Ask s centre rest) (record x { machine = now; counts = counts })
   ask_now s centre rest has =
-      subst (λ (k : CountsView). HasReceived (IsSaverOf meaning) x p (sent.Ask s centre rest) (record x { machine = now; counts = k })) (sym counted)
-      (to_now x now kept program (received_more meaning x) (HasReceived (IsSaverOf meaning) x p (sent.Ask s centre rest)) (ask_received meaning x now.core numbers settings p s centre rest has))
+      subst (λ (k : CountsView). HasReceived (IsLockingMachineOf meaning) x p (sent.Ask s centre rest) (record x { machine = now; counts = k })) (sym counted)
+      (to_now x now kept program (received_more meaning x) (HasReceived (IsLockingMachineOf meaning) x p (sent.Ask s centre rest)) (ask_received meaning x now.core numbers settings p s centre rest has))
 
-  pub ready_now : (s : ScopeId) → HasReceivedMessage x.machine.core now.core (Ready s) → HasReceived (IsSaverOf meaning) x p (sent.Ready s) (record x { machine = now; counts = counts })
+  pub ready_now : (s : ScopeId) → HasReceivedMessage x.machine.core now.core (Ready s) → HasReceived (IsLockingMachineOf meaning) x p (sent.Ready s) (record x { machine = now; counts = counts })
   ready_now s has =
-      subst (λ (k : CountsView). HasReceived (IsSaverOf meaning) x p (sent.Ready s) (record x { machine = now; counts = k })) (sym counted)
-      (to_now x now kept program (received_more meaning x) (HasReceived (IsSaverOf meaning) x p (sent.Ready s)) (ready_received meaning x now.core numbers settings p s has))
+      subst (λ (k : CountsView). HasReceived (IsLockingMachineOf meaning) x p (sent.Ready s) (record x { machine = now; counts = k })) (sym counted)
+      (to_now x now kept program (received_more meaning x) (HasReceived (IsLockingMachineOf meaning) x p (sent.Ready s)) (ready_received meaning x now.core numbers settings p s has))
 
 -- ---- what is sent
 
-module _ {P : Type 0} (meaning : P → Update) (x : SaverView P) (to : MachineNo) (now : SnapMachineView P)
+module _ {P : Type 0} (meaning : P → Update) (x : LockingMachineView P) (to : MachineNo) (now : SnapMachineView P)
     (core : now.core ≡ record x.machine.core { out = with_outbox x.machine.core.out (peer.Machine to) (without_first (outbox_to x.machine.core.out (peer.Machine to))) }) (kept : now.kept ≡ x.machine.kept) (program : now.program ≡ x.machine.program) where
   machine_is : record x.machine { core = record x.machine.core { out = with_outbox x.machine.core.out (peer.Machine to) (without_first (outbox_to x.machine.core.out (peer.Machine to))) } } ≡ now
   machine_is = λ i. record { core = sym core i; kept = sym kept i; program = sym program i }
 
   pub message_now : (counts : CountsView) (one : message.Message) → SameSettings x.machine.core now.core → counts ≡ record x.counts { sent = one_more x.counts.sent } → Some (message_view one) ≡ slice_get (waiting_for x.machine.core.out (peer.Machine to)) 0
-      → OfEach (IsSaverOf meaning) x (SendsItsFirst (IsSaverOf meaning) to.0 one (record x { machine = now; counts = counts }))
+      → OfEach (IsLockingMachineOf meaning) x (SendsItsFirst (IsLockingMachineOf meaning) to.0 one (record x { machine = now; counts = counts }))
   message_now counts one settings counted first =
-      subst (λ (k : CountsView). OfEach (IsSaverOf meaning) x (SendsItsFirst (IsSaverOf meaning) to.0 one (record x { machine = now; counts = k }))) (sym counted)
-      (subst (λ (m : SnapMachineView P). OfEach (IsSaverOf meaning) x (SendsItsFirst (IsSaverOf meaning) to.0 one (record x { machine = m; counts = record x.counts { sent = one_more x.counts.sent } }))) machine_is
+      subst (λ (k : CountsView). OfEach (IsLockingMachineOf meaning) x (SendsItsFirst (IsLockingMachineOf meaning) to.0 one (record x { machine = now; counts = k }))) (sym counted)
+      (subst (λ (m : SnapMachineView P). OfEach (IsLockingMachineOf meaning) x (SendsItsFirst (IsLockingMachineOf meaning) to.0 one (record x { machine = m; counts = record x.counts { sent = one_more x.counts.sent } }))) machine_is
       (message_taken meaning x to (with_outbox x.machine.core.out (peer.Machine to) (without_first (outbox_to x.machine.core.out (peer.Machine to)))) refl one first (subst (SameSettings x.machine.core) core settings)))
 
-  pub message_back : None ≡ slice_get (waiting_for x.machine.core.out (peer.Machine to)) 0 → StandsStill (IsSaverOf meaning) x (record x { machine = now })
+  pub message_back : None ≡ slice_get (waiting_for x.machine.core.out (peer.Machine to)) 0 → StandsStill (IsLockingMachineOf meaning) x (record x { machine = now })
   message_back none =
-      subst (λ (m : SnapMachineView P). StandsStill (IsSaverOf meaning) x (record x { machine = m })) machine_is
+      subst (λ (m : SnapMachineView P). StandsStill (IsLockingMachineOf meaning) x (record x { machine = m })) machine_is
       (messages_still meaning x to (with_outbox x.machine.core.out (peer.Machine to) (without_first (outbox_to x.machine.core.out (peer.Machine to)))) refl none)

@@ -35,7 +35,7 @@ use Rattle.coordinator.specs.snap_update.Snaps.{IsSameButRoom, with_entry}
 use Rattle.task_sets.specs.task_sched.Tasks.{is_open}
 use Rattle.snapshot_machines.specs.locking.Reports.{AreToldReports, ReportsView}
 use Rattle.snapshot_machines.specs.locking.Asking.{HasWanted}
-use Rattle.snapshot_machines.specs.locking.Savers.{ArePlansOf, IsSaverOf, IsSavedRight, LooksAlike, Machine, SaverView, Setting, SnapView, flag_there, part_held, part_of, place_at, size, with_snaps}
+use Rattle.snapshot_machines.specs.locking.Machines.{ArePlansOf, IsLockingMachineOf, IsSavedRight, LooksAlike, Machine, LockingMachineView, Setting, SnapView, flag_there, part_held, part_of, place_at, size, with_snaps}
 use Rattle.snapshot_machines.proofs.locking.ScopeLemmas.{admit_here, admit_there, can_not_admit, pending_is}
 use Rattle.snapshot_machines.proofs.locking.StandLemmas.{alike_to, closed_is, kept_from, room_is, saved_kept}
 use Rattle.snapshot_machines.proofs.locking.TurnLemmas.{done_at_once, worked_at_once}
@@ -109,7 +109,7 @@ may_with st a b v one other number same admit may =
       ticket = may.ticket;
     }
 
-module _ {P : Type 0} (meaning : P → Update) (st : Setting) (a : ℕ) (m : Machine) (x : SaverView P) (is : IsSaverOf meaning st a m x) where
+module _ {P : Type 0} (meaning : P → Update) (st : Setting) (a : ℕ) (m : Machine) (x : LockingMachineView P) (is : IsLockingMachineOf meaning st a m x) where
   same_locks : HasSameLocks (part_of x.machine.core) m.part
   same_locks =
       let rest = is.part.rest in
@@ -133,8 +133,8 @@ module _ {P : Type 0} (meaning : P → Update) (st : Setting) (a : ℕ) (m : Mac
 
 -- ---- where none is made
 
-module _ {P : Type 0} (meaning : P → Update) (x : SaverView P) (orderly : IsOrderly x.machine.core) (places : KnowsPlaces x.machine.core) (counted : x.machine.core.numbers.tasks.outside ≡ outside_of x.machine.kept) where
-  pub can_at_once : CanUpdatePick x.machine.core → CanUpdateAtOnce (IsSaverOf meaning) x
+module _ {P : Type 0} (meaning : P → Update) (x : LockingMachineView P) (orderly : IsOrderly x.machine.core) (places : KnowsPlaces x.machine.core) (counted : x.machine.core.numbers.tasks.outside ≡ outside_of x.machine.kept) where
+  pub can_at_once : CanUpdatePick x.machine.core → CanUpdateAtOnce (IsLockingMachineOf meaning) x
   can_at_once can = (
     can.vertex.0,
     λ st a m snap is. record {
@@ -143,7 +143,7 @@ module _ {P : Type 0} (meaning : P → Update) (x : SaverView P) (orderly : IsOr
     },
   )
 
-  pub can_not_at_once : HasNoneAtOnce x.machine.core → CanNotUpdateAtOnce (IsSaverOf meaning) x
+  pub can_not_at_once : HasNoneAtOnce x.machine.core → CanNotUpdateAtOnce (IsLockingMachineOf meaning) x
   can_not_at_once (inl none) = inl (can_not_admit meaning x orderly places counted none)
   can_not_at_once (inr one) = inr (
     one.0.0,
@@ -165,7 +165,7 @@ flag_kept : (old now : TasksView) → HasRunAtOnce old now → (o : Option ℕ) 
 flag_kept old now run None set = refl
 flag_kept old now run (Some k) set = run.planned k set
 
-module _ {P : Type 0} (meaning : P → Update) (x : SaverView P) (now : SnapMachineView P) (reports : ReportsView) (orderly : IsOrderly x.machine.core) (v : Vertex) (ticket : ℕ)
+module _ {P : Type 0} (meaning : P → Update) (x : LockingMachineView P) (now : SnapMachineView P) (reports : ReportsView) (orderly : IsOrderly x.machine.core) (v : Vertex) (ticket : ℕ)
     (made : HasUpdatedFound (meaning x.machine.program) x.machine.core now.core v ticket) (run : HasRunAtOnce x.machine.core.numbers.tasks now.core.numbers.tasks)
     (logged : HasLoggedAtOnce x.machine.core x.machine.kept now.kept v ticket)
     (local : let old = x.machine.core.numbers.local in let new = now.core.numbers.local in new ≡ record old { kept = new.kept; rows = new.rows; numbers = new.numbers })
@@ -176,7 +176,7 @@ module _ {P : Type 0} (meaning : P → Update) (x : SaverView P) (now : SnapMach
   abbrev w : SnapView
   w = x.machine.kept
 
-  abbrev worked : SaverView P
+  abbrev worked : LockingMachineView P
   worked = record x { machine = now; reports = reports }
 
   abbrev mark : ℕ
@@ -185,7 +185,7 @@ module _ {P : Type 0} (meaning : P → Update) (x : SaverView P) (now : SnapMach
   rest : HasOtherEntries w now.kept
   rest = entry_kept (Go old.numbers.local.me v ticket) mark w now.kept logged
 
-  module _ (st : Setting) (a : ℕ) (m : Machine) (snap : IsSnapSetting st) (is : IsSaverOf meaning st a m x) (low : v.0 < size st.graph) (owned : st.owner v.0 ≡ a) (unflown : m.part.flight (next_scope a m.part) ≡ None) where
+  module _ (st : Setting) (a : ℕ) (m : Machine) (snap : IsSnapSetting st) (is : IsLockingMachineOf meaning st a m x) (low : v.0 < size st.graph) (owned : st.owner v.0 ≡ a) (unflown : m.part.flight (next_scope a m.part) ≡ None) where
     abbrev entry : Entry
     entry = entry_at_once a v.0 ticket
 
@@ -249,7 +249,7 @@ module _ {P : Type 0} (meaning : P → Update) (x : SaverView P) (now : SnapMach
             by true = refl
             by false = refl
 
-    pub at_once_standing : IsSaverOf meaning st a new worked
+    pub at_once_standing : IsLockingMachineOf meaning st a new worked
     at_once_standing =
         record {
           here = settings st is.here;
@@ -269,13 +269,13 @@ module _ {P : Type 0} (meaning : P → Update) (x : SaverView P) (now : SnapMach
           reports = subst (λ ms. AreToldReports ms m.out) (sym told) is.reports;
         }
 
-module _ {P : Type 0} (meaning : P → Update) (x : SaverView P) (now : SnapMachineView P) (reports : ReportsView) (orderly : IsOrderly x.machine.core) (counted : x.machine.core.numbers.tasks.outside ≡ outside_of x.machine.kept)
+module _ {P : Type 0} (meaning : P → Update) (x : LockingMachineView P) (now : SnapMachineView P) (reports : ReportsView) (orderly : IsOrderly x.machine.core) (counted : x.machine.core.numbers.tasks.outside ≡ outside_of x.machine.kept)
     (v : Vertex) (ticket : ℕ) (has : HasUpdatedPick (meaning x.machine.program) x.machine.core now.core v ticket) (run : HasRunAtOnce x.machine.core.numbers.tasks now.core.numbers.tasks)
     (logged : HasLoggedAtOnce x.machine.core x.machine.kept now.kept v ticket)
     (local : let old = x.machine.core.numbers.local in let new = now.core.numbers.local in new ≡ record old { kept = new.kept; rows = new.rows; numbers = new.numbers })
     (program : now.program ≡ x.machine.program) (settings : SameSettings x.machine.core now.core) (told : reports.messages ≡ x.reports.messages) where
   -- it is what the machine of the law makes of it in turn, and it asks for a snapshot where it has to
-  pub updated_at_once : (behind : SaverView P) → HasWanted (record x { machine = now; reports = reports }) behind → HasUpdatedAtOnce (IsSaverOf meaning) x v.0 ticket behind
+  pub updated_at_once : (behind : LockingMachineView P) → HasWanted (record x { machine = now; reports = reports }) behind → HasUpdatedAtOnce (IsLockingMachineOf meaning) x v.0 ticket behind
   updated_at_once behind asked st a m snap is =
       let may : MayUpdateAtOnce st a v.0 m.part 1 = at_once_here meaning st a m x is v.0 (has.may st snap.is is.here) in
       let within : MayUpdateWithin st a v.0 m = record { may = may; room = room_is meaning st a m x is snap counted ∙ has.opened } in

@@ -27,7 +27,7 @@ use Rattle.wire.specs.wire_msgs.Views as wire
 use Rattle.wire.specs.declared.wire_msgs.messages.Message.TheVariants as sent
 use Rattle.snapshot_machines.specs.locking.Reports.{AreToldReports, ReportsView, with_report}
 use Rattle.snapshot_machines.specs.locking.Asking.{HasToldCounts, HasWanted}
-use Rattle.snapshot_machines.specs.locking.Savers.{CountsView, IsCountOf, IsPartOf, IsSaverOf, IsSavedOnce, IsSavedRight, IsSnapPartOf, LooksAlike, Machine, SaverView, Setting, SnapView, flag_there, part_held, part_of, place_at, with_snaps}
+use Rattle.snapshot_machines.specs.locking.Machines.{CountsView, IsCountOf, IsPartOf, IsLockingMachineOf, IsSavedOnce, IsSavedRight, IsSnapPartOf, LooksAlike, Machine, LockingMachineView, Setting, SnapView, flag_there, part_held, part_of, place_at, with_snaps}
 use Rattle.snapshot_machines.proofs.locking.StandLemmas.{alike_to, closed_is, kept_from, plans_kept, still_stands}
 use Rattle.snapshot_machines.proofs.locking.MarkLemmas.{seeded_right}
 use Rattle.snapshot_machines.proofs.locking.WorkLemmas.{asked_standing, reports_push}
@@ -96,15 +96,15 @@ once_begun k w now same once =
     let one = begun_once k w once in
     subst IsSavedOnce (sym same) (record { vertices = one.vertices; edges = one.edges })
 
-module _ {P : Type 0} (meaning : P → Update) (x : SaverView P) (now : SnapMachineView P) where
+module _ {P : Type 0} (meaning : P → Update) (x : LockingMachineView P) (now : SnapMachineView P) where
   abbrev old : Core
   old = x.machine.core
 
-  abbrev behind : SaverView P
+  abbrev behind : LockingMachineView P
   behind = record x { machine = now }
 
   module _ (k : ℕ) (begun : HasBegun old x.machine.kept now.core now.kept k) (same : IsSameButRoom (with_begun k x.machine.kept) now.kept) (rest : HasOtherPending old now.core) (program : now.program ≡ x.machine.program) (settings : SameSettings old now.core) where
-    pub begun_standing : (st : Setting) (a : ℕ) (m : Machine) → IsSnapSetting st → IsSaverOf meaning st a m x → IsSaverOf meaning st a (takes_call st a (Begin k) m) behind
+    pub begun_standing : (st : Setting) (a : ℕ) (m : Machine) → IsSnapSetting st → IsLockingMachineOf meaning st a m x → IsLockingMachineOf meaning st a (takes_call st a (Begin k) m) behind
     begun_standing st a m snap is =
         let new : Machine = takes_call st a (Begin k) m in
         let held_is : part_held behind ≡ begins st a k (part_held x) = begun st is.here ∙ ap (λ (b : ℕ). begins st b k (part_held x)) is.number in
@@ -125,10 +125,10 @@ module _ {P : Type 0} (meaning : P → Update) (x : SaverView P) (now : SnapMach
           reports = is.reports;
         }
 
-    pub heard_begin : HasHeard (IsSaverOf meaning) x (sent.Begin k) behind
+    pub heard_begin : HasHeard (IsLockingMachineOf meaning) x (sent.Begin k) behind
     heard_begin st c a (Begin j) front =
         still_stands meaning st a (takes_call st a (Begin j) (c.machine a)) behind
-        (subst (λ (i : ℕ). IsSaverOf meaning st a (takes_call st a (Begin i) (c.machine a)) behind) front.told (begun_standing st a (c.machine a) front.setting front.here))
+        (subst (λ (i : ℕ). IsLockingMachineOf meaning st a (takes_call st a (Begin i) (c.machine a)) behind) front.told (begun_standing st a (c.machine a) front.setting front.here))
     heard_begin st c a (Committed j) front = absurd front.told
     heard_begin st c a (Wave j) front = absurd front.told
     heard_begin st c a (Step j) front = absurd front.told
@@ -137,14 +137,14 @@ module _ {P : Type 0} (meaning : P → Update) (x : SaverView P) (now : SnapMach
 
   module _ (k : ℕ) (kept : now.kept ≡ with_committed k x.machine.kept) (fewer : HasFewerOutside old now.core) (part : part_of now.core ≡ part_of old) (program : now.program ≡ x.machine.program) (settings : SameSettings old now.core)
       (reports : ReportsView) (told : reports.messages ≡ x.reports.messages) where
-    abbrev left : SaverView P
+    abbrev left : LockingMachineView P
     left = record x { machine = now; reports = reports }
 
     one_less : (xs : List ℕ) → rest_of xs ≡ drop 1 xs
     one_less [] = refl
     one_less (n ∷ xs) = refl
 
-    pub committed_standing : (st : Setting) (a : ℕ) (m : Machine) → IsSaverOf meaning st a m x → IsSaverOf meaning st a (commits k m) left
+    pub committed_standing : (st : Setting) (a : ℕ) (m : Machine) → IsLockingMachineOf meaning st a m x → IsLockingMachineOf meaning st a (commits k m) left
     committed_standing st a m is =
         let held_is : part_held left ≡ part_held x = ap (λ (w : SnapView). with_snaps w (part_of now.core)) kept ∙ ap (with_snaps x.machine.kept) part in
         let alike : LooksAlike st a m.part (part_held left) = alike_to st a m.part (part_held x) (part_held left) is.part held_is in
@@ -168,11 +168,11 @@ module _ {P : Type 0} (meaning : P → Update) (x : SaverView P) (now : SnapMach
           reports = subst (λ ms. AreToldReports ms m.out) (sym told) is.reports;
         }
 
-    pub heard_committed : (behind : SaverView P) → HasWanted left behind → HasHeard (IsSaverOf meaning) x (sent.Committed k) behind
+    pub heard_committed : (behind : LockingMachineView P) → HasWanted left behind → HasHeard (IsLockingMachineOf meaning) x (sent.Committed k) behind
     heard_committed behind asked st c a (Committed j) front =
         let m : Machine = c.machine a in
         still_stands meaning st a (asks st (commits j m)) behind
-        (subst (λ (i : ℕ). IsSaverOf meaning st a (asks st (commits i m)) behind) front.told
+        (subst (λ (i : ℕ). IsLockingMachineOf meaning st a (asks st (commits i m)) behind) front.told
         (asked_standing meaning st a (commits k m) left (committed_standing st a m front.here) front.setting behind asked))
     heard_committed behind asked st c a (Begin j) front = absurd front.told
     heard_committed behind asked st c a (Wave j) front = absurd front.told
@@ -180,7 +180,7 @@ module _ {P : Type 0} (meaning : P → Update) (x : SaverView P) (now : SnapMach
 
 -- ---- a wave
 
-module _ {P : Type 0} (meaning : P → Update) (x now : SaverView P) (wave sent_count waiting : ℕ) (told : ReportsView) (messages : told.messages ≡ x.reports.messages) (has_told : HasToldCounts (record x { reports = told }) now wave sent_count)
+module _ {P : Type 0} (meaning : P → Update) (x now : LockingMachineView P) (wave sent_count waiting : ℕ) (told : ReportsView) (messages : told.messages ≡ x.reports.messages) (has_told : HasToldCounts (record x { reports = told }) now wave sent_count)
     (waits : (st : Setting) → IsPartOf st x.machine.core → waiting ≡ waiting_in st (part_of x.machine.core)) (can : MayTellCounts x.counts waiting) (sum : sent_count ≡ x.counts.sent + waiting) where
   abbrev idle : Bool
   idle = has_told.idle
@@ -197,10 +197,10 @@ module _ {P : Type 0} (meaning : P → Update) (x now : SaverView P) (wave sent_
   abbrev answer : Option WaveAnswer
   answer = Some (record { wave = wave; counted = counted })
 
-  abbrev behind_wave : SaverView P
+  abbrev behind_wave : LockingMachineView P
   behind_wave = record x { counts = counts; reports = with_report (wire.Count wave counted) told }
 
-  wave_standing : (st : Setting) (a : ℕ) (m : Machine) → IsSaverOf meaning st a m x → IsSaverOf meaning st a (prompt st a (takes_call st a (Wave wave) m)) behind_wave
+  wave_standing : (st : Setting) (a : ℕ) (m : Machine) → IsLockingMachineOf meaning st a m x → IsLockingMachineOf meaning st a (prompt st a (takes_call st a (Wave wave) m)) behind_wave
   wave_standing st a m is =
       let held : Machine = takes_call st a (Wave wave) m in
       let counted_here : IsCountOf st (record x.counts { held = Some wave }) held = record { sent = is.counts.sent; received = is.counts.received; held = refl } in
@@ -223,7 +223,7 @@ module _ {P : Type 0} (meaning : P → Update) (x now : SaverView P) (wave sent_
       }) in
       let counts_now : IsCountOf st counts (prompt st a held) =
       prompt_counts st a sent_count updates idle (record x.counts { held = Some wave }) counts answer held counted_here can_here sum_here made_here rests_here has in
-      subst (λ (n : Machine). IsSaverOf meaning st a n behind_wave) (sym same)
+      subst (λ (n : Machine). IsLockingMachineOf meaning st a n behind_wave) (sym same)
       (record {
         here = is.here;
         number = is.number;
@@ -249,10 +249,10 @@ module _ {P : Type 0} (meaning : P → Update) (x now : SaverView P) (wave sent_
             (reports_push x.reports.messages m.out (wire.Count wave counted) (Count wave counted) is.reports (refl, tt));
       })
 
-  pub heard_wave : HasHeard (IsSaverOf meaning) x (sent.Wave wave) now
+  pub heard_wave : HasHeard (IsLockingMachineOf meaning) x (sent.Wave wave) now
   heard_wave st c a (Wave j) front =
-      subst (IsSaverOf meaning st a (prompt st a (takes_call st a (Wave j) (c.machine a)))) (sym has_told.after)
-      (subst (λ (i : ℕ). IsSaverOf meaning st a (prompt st a (takes_call st a (Wave i) (c.machine a))) behind_wave) front.told (wave_standing st a (c.machine a) front.here))
+      subst (IsLockingMachineOf meaning st a (prompt st a (takes_call st a (Wave j) (c.machine a)))) (sym has_told.after)
+      (subst (λ (i : ℕ). IsLockingMachineOf meaning st a (prompt st a (takes_call st a (Wave i) (c.machine a))) behind_wave) front.told (wave_standing st a (c.machine a) front.here))
   heard_wave st c a (Begin j) front = absurd front.told
   heard_wave st c a (Committed j) front = absurd front.told
   heard_wave st c a (Step j) front = absurd front.told

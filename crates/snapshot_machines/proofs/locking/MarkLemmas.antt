@@ -39,7 +39,7 @@ use Rattle.snapshot_machines.proofs.wave_counts.CountLemmas.{counts_put_out}
 use Rattle.wire.specs.wire_msgs.Views.{MessageView}
 use Rattle.wire.specs.wire_msgs.Views as wire
 use Rattle.snapshot_machines.specs.locking.Reports.{AreToldReports, ReportsView}
-use Rattle.snapshot_machines.specs.locking.Savers.{ArePlansOf, IsMarkedOwn, IsSaverOf, IsSavedOnce, IsSavedRight, LooksAlike, Machine, SaverView, Setting, SnapView, flag_there, is_end, nth_edge, part_held, part_of, place_at, size, with_snaps}
+use Rattle.snapshot_machines.specs.locking.Machines.{ArePlansOf, IsMarkedOwn, IsLockingMachineOf, IsSavedOnce, IsSavedRight, LooksAlike, Machine, LockingMachineView, Setting, SnapView, flag_there, is_end, nth_edge, part_held, part_of, place_at, size, with_snaps}
 use Rattle.snapshot_machines.proofs.locking.StandLemmas.{alike_to, kept_from, still_stands}
 use Rattle.snapshot_machines.proofs.locking.WorkLemmas.{ends_others, reports_push, still_flies, vertex_apart}
 
@@ -174,7 +174,7 @@ module _ (st : Setting) (setting : IsSetting st) (a : ℕ) (s : ScopeId) (v : �
       omega (arith, unmarked, more))
       (cases_eq one.0 v))
 
-module _ {P : Type 0} (meaning : P → Update) (x : SaverView P) (now : SnapMachineView P) (orderly : IsOrderly x.machine.core) (s : ScopeId)
+module _ {P : Type 0} (meaning : P → Update) (x : LockingMachineView P) (now : SnapMachineView P) (orderly : IsOrderly x.machine.core) (s : ScopeId)
     (has : HasMarked x.machine.core x.machine.kept now.core now.kept s) (more : HasSavedMore x.machine.kept now.kept) (once : HasSavedOnce x.machine.core x.machine.kept now.kept s) (plan : HasEndedPlan x.machine.core now.core s)
     (local : now.core.numbers.local ≡ record x.machine.core.numbers.local { kept = now.core.numbers.local.kept }) (program : now.program ≡ x.machine.program) (settings : SameSettings x.machine.core now.core) where
   abbrev old : Core
@@ -186,7 +186,7 @@ module _ {P : Type 0} (meaning : P → Update) (x : SaverView P) (now : SnapMach
   abbrev v : ℕ
   v = has.may.vertex
 
-  abbrev behind : SaverView P
+  abbrev behind : LockingMachineView P
   behind = record x { machine = now }
 
   flies : flight_at old.pipe s ≡ Some (record { 0 = v })
@@ -198,7 +198,7 @@ module _ {P : Type 0} (meaning : P → Update) (x : SaverView P) (now : SnapMach
   plan_is : HasUnplanned old.numbers.tasks now.core.numbers.tasks place.0
   plan_is = plan (record { 0 = v }) place.0 flies place.1
 
-  module _ (st : Setting) (a : ℕ) (m : Machine) (snap : IsSnapSetting st) (is : IsSaverOf meaning st a m x) where
+  module _ (st : Setting) (a : ℕ) (m : Machine) (snap : IsSnapSetting st) (is : IsLockingMachineOf meaning st a m x) where
     abbrev new : Machine
     new = makes_mark st a s v m
 
@@ -248,7 +248,7 @@ module _ {P : Type 0} (meaning : P → Update) (x : SaverView P) (now : SnapMach
     held_pending : (part_held x).pending v ≡ true
     held_pending = has.may.pending
 
-    pub marked_standing : IsSaverOf meaning st a new behind
+    pub marked_standing : IsLockingMachineOf meaning st a new behind
     marked_standing =
         record {
           here = settings st is.here;
@@ -266,44 +266,44 @@ module _ {P : Type 0} (meaning : P → Update) (x : SaverView P) (now : SnapMach
           reports = is.reports;
         }
 
-  pub marked_one : HasDone (IsSaverOf meaning) x (MarkDeed s) behind
+  pub marked_one : HasDone (IsLockingMachineOf meaning) x (MarkDeed s) behind
   marked_one st a m snap is =
       let new : Machine = makes_mark st a s v m in
       let may_m : MayMark s m.part =
       mark_may st a (part_held x) m.part (alike_turned st a m.part (part_held x) is.part) s
       (record { vertex = has.may.vertex; flight = has.may.flight; ready = has.may.ready; pending = has.may.pending }) in (
         (home st a m snap is, may_m),
-        subst (λ (o : Option ℕ). IsSaverOf meaning st a (prompt st a (marks_centre st a s o m)) behind) (sym (flight_same st a m snap is s ∙ has.may.flight))
+        subst (λ (o : Option ℕ). IsLockingMachineOf meaning st a (prompt st a (marks_centre st a s o m)) behind) (sym (flight_same st a m snap is s ∙ has.may.flight))
             (still_stands meaning st a new behind (marked_standing st a m snap is)),
       )
 
-module _ {P : Type 0} (meaning : P → Update) (x : SaverView P) where
-  pub can_mark : (s : ScopeId) → MayMark s (part_of x.machine.core) → s.home ≡ x.machine.core.numbers.local.me → CanDo (IsSaverOf meaning) x (MarkDeed s)
+module _ {P : Type 0} (meaning : P → Update) (x : LockingMachineView P) where
+  pub can_mark : (s : ScopeId) → MayMark s (part_of x.machine.core) → s.home ≡ x.machine.core.numbers.local.me → CanDo (IsLockingMachineOf meaning) x (MarkDeed s)
   can_mark s may home st a m snap is = (
     ap (λ (n : MachineNo). n.0) home ∙ is.number,
     mark_may st a (part_held x) m.part (alike_turned st a m.part (part_held x) is.part) s (record { vertex = may.vertex; flight = may.flight; ready = may.ready; pending = may.pending }),
   )
 
-  pub can_not_mark : (s : ScopeId) → (MayMark s (part_of x.machine.core) → ⊥) → CanNotDo (IsSaverOf meaning) x (MarkDeed s)
+  pub can_not_mark : (s : ScopeId) → (MayMark s (part_of x.machine.core) → ⊥) → CanNotDo (IsLockingMachineOf meaning) x (MarkDeed s)
   can_not_mark s not st a m snap is may =
       let one = mark_may st a m.part (part_held x) is.part s may.1 in
       not (record { vertex = one.vertex; flight = one.flight; ready = one.ready; pending = one.pending })
 
   -- ---- sections
 
-  pub can_send : MaySendSection x.machine.core x.machine.kept → CanDo (IsSaverOf meaning) x SectionDeed
+  pub can_send : MaySendSection x.machine.core x.machine.kept → CanDo (IsLockingMachineOf meaning) x SectionDeed
   can_send may st a m snap is =
       send_may st a (part_held x) m.part (alike_turned st a m.part (part_held x) is.part) snap.is (subst (λ (k : ℕ). MaySend st k (part_held x)) is.number (may st is.here))
 
-  pub can_not_send : MayNotSendSection x.machine.core x.machine.kept → CanNotDo (IsSaverOf meaning) x SectionDeed
+  pub can_not_send : MayNotSendSection x.machine.core x.machine.kept → CanNotDo (IsLockingMachineOf meaning) x SectionDeed
   can_not_send not st a m snap is may =
       not st is.here (subst (λ (k : ℕ). MaySend st k (part_held x)) (sym is.number) (send_may st a m.part (part_held x) is.part snap.is may))
 
   pub section_sent : (kept : SnapView) (reports : ReportsView) → MaySendSection x.machine.core x.machine.kept → IsSameButRoom (with_section x.machine.kept) kept
-      → reports.messages ≡ x.reports.messages ++ wire.Section (own_section x.machine.kept) ∷ [] → HasDone (IsSaverOf meaning) x SectionDeed (record x { machine = record x.machine { kept = kept }; reports = reports })
+      → reports.messages ≡ x.reports.messages ++ wire.Section (own_section x.machine.kept) ∷ [] → HasDone (IsLockingMachineOf meaning) x SectionDeed (record x { machine = record x.machine { kept = kept }; reports = reports })
   section_sent kept reports may same told st a m snap is =
       let new : Machine = sections m in
-      let behind : SaverView P = record x { machine = record x.machine { kept = kept }; reports = reports } in
+      let behind : LockingMachineView P = record x { machine = record x.machine { kept = kept }; reports = reports } in
       let sent : with_snaps kept (part_of x.machine.core) ≡ record (part_held x) { sent = (part_held x).known } = ap (λ (w : SnapView). with_snaps w (part_of x.machine.core)) same in
       let alike : LooksAlike st a new.part (record (part_held x) { sent = (part_held x).known }) =
       record { rest = ap (λ (p : Part). record p { sent = p.known }) is.part.rest; vertices = is.part.vertices; edges = is.part.edges } in

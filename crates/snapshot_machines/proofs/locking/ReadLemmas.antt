@@ -9,7 +9,7 @@ use Rattle.cluster_laws.specs.cluster_core.Actions.{HasFirst}
 use Rattle.cluster_laws.specs.cluster_core.Messages.{Message}
 use Rattle.cluster_laws.specs.cluster_core.Parts.{Part}
 use Rattle.cluster_laws.specs.cluster_core.Ranges.{set_at}
-use Rattle.coordinator.specs.machine_api.Told.{message_read, told_by}
+use Rattle.coordinator.specs.machine_api.Told.{message_read, view_of}
 use Rattle.cluster_laws.specs.cluster_model.Calls.{Report}
 use Rattle.cluster_laws.specs.cluster_model.Events.{HasNext}
 use Rattle.cluster_laws.specs.cluster_model.Working.{fails, hands}
@@ -25,7 +25,7 @@ use Rattle.wire.specs.wire_msgs.Views.{MessageView, message_view}
 use Rattle.wire.specs.wire_msgs.Views as told
 use Rattle.wire.specs.declared.wire_msgs.messages.Message as message
 use Rattle.snapshot_machines.specs.locking.Reports.{AreToldReports, ReportsView, has_report, reports_left}
-use Rattle.snapshot_machines.specs.locking.Savers.{IsSaverOf, IsSavedRight, LooksAlike, Machine, SaverView, Setting, part_held, part_of, with_snaps}
+use Rattle.snapshot_machines.specs.locking.Machines.{IsLockingMachineOf, IsSavedRight, LooksAlike, Machine, LockingMachineView, Setting, part_held, part_of, with_snaps}
 
 -- ---- reports
 
@@ -61,14 +61,14 @@ first_report w (m ∷ ms) room (r ∷ rs) first are =
     let same : w ≡ m = cc in
     record { report = r; behind = rs; first = refl; told = subst (λ (v : MessageView). TellsReport v r) (sym same) are.0; rest = are.1 }
 
-module _ {P : Type 0} (meaning : P → Update) (x : SaverView P) where
-  pub reporting : (m : Machine) (st : Setting) (a : ℕ) → IsSaverOf meaning st a m x → (b : Bool) → b ≡ has_report x.reports → (b ≡ true) ↔ HasNext m.out
+module _ {P : Type 0} (meaning : P → Update) (x : LockingMachineView P) where
+  pub reporting : (m : Machine) (st : Setting) (a : ℕ) → IsLockingMachineOf meaning st a m x → (b : Bool) → b ≡ has_report x.reports → (b ≡ true) ↔ HasNext m.out
   reporting m st a is b same = let next = tells_next x.reports.messages m.out is.reports in (λ yes. next.0 (sym same ∙ yes), λ some. same ∙ next.1 some)
 
-  pub reports_none : None ≡ slice_get x.reports.messages 0 → OfEach (IsSaverOf meaning) x (λ st a m. m.out ≡ [])
+  pub reports_none : None ≡ slice_get x.reports.messages 0 → OfEach (IsLockingMachineOf meaning) x (λ st a m. m.out ≡ [])
   reports_none none st a m snap is = none_left x.reports.messages m.out none is.reports
 
-  pub reports_still : (left : ReportsView) → left ≡ reports_left x.reports.messages x.reports.room → None ≡ slice_get x.reports.messages 0 → StandsStill (IsSaverOf meaning) x (record x { reports = left })
+  pub reports_still : (left : ReportsView) → left ≡ reports_left x.reports.messages x.reports.room → None ≡ slice_get x.reports.messages 0 → StandsStill (IsLockingMachineOf meaning) x (record x { reports = left })
   reports_still left is_left none st a m snap is =
       record {
         here = is.here;
@@ -90,7 +90,7 @@ module _ {P : Type 0} (meaning : P → Update) (x : SaverView P) where
       same (w ∷ ms) none are = absurd (none_some w none)
 
   pub report_taken : (left : ReportsView) (one : message.Message) → left ≡ reports_left x.reports.messages x.reports.room → Some (message_view one) ≡ slice_get x.reports.messages 0
-      → OfEach (IsSaverOf meaning) x (IsReporting (IsSaverOf meaning) one (record x { reports = left }))
+      → OfEach (IsLockingMachineOf meaning) x (IsReporting (IsLockingMachineOf meaning) one (record x { reports = left }))
   report_taken left one is_left first st a m snap is =
       let next = first_report (message_view one) x.reports.messages x.reports.room m.out first is.reports in
       record {
@@ -125,7 +125,7 @@ module _ {P : Type 0} (meaning : P → Update) (x : SaverView P) where
 
   -- ---- it fails
 
-  pub failed_standing : OfEach (IsSaverOf meaning) x (λ st a m. IsSaverOf meaning st a (fails m) x)
+  pub failed_standing : OfEach (IsLockingMachineOf meaning) x (λ st a m. IsLockingMachineOf meaning st a (fails m) x)
   failed_standing st a m snap is =
       record {
         here = is.here;
@@ -176,34 +176,34 @@ outbox_there [] b w first = absurd (none_some w (sym first))
 outbox_there (box ∷ boxes) zero w first = omega arith
 outbox_there (box ∷ boxes) (suc b) w first = omega (arith, outbox_there boxes b w first)
 
-module _ {P : Type 0} (meaning : P → Update) (x : SaverView P) (to : MachineNo) where
+module _ {P : Type 0} (meaning : P → Update) (x : LockingMachineView P) (to : MachineNo) where
   abbrev core : Core
   core = x.machine.core
 
-  out_is : (st : Setting) (a : ℕ) (m : Machine) → IsSaverOf meaning st a m x → (q : ℕ) → m.part.out q ≡ (part_of core).out q
+  out_is : (st : Setting) (a : ℕ) (m : Machine) → IsLockingMachineOf meaning st a m x → (q : ℕ) → m.part.out q ≡ (part_of core).out q
   out_is st a m is q = ap (λ (p : Part). p.out q) is.part.rest
 
-  pub message_waits : (b : Bool) → b ≡ has_waiting (outbox_to core.out (peer.Machine to)) → OfEach (IsSaverOf meaning) x (λ st a m. (b ≡ true) ↔ HasFirst (m.part.out to.0))
+  pub message_waits : (b : Bool) → b ≡ has_waiting (outbox_to core.out (peer.Machine to)) → OfEach (IsLockingMachineOf meaning) x (λ st a m. (b ≡ true) ↔ HasFirst (m.part.out to.0))
   message_waits b same st a m snap is =
       let next = waits_first (waiting_for core.out (peer.Machine to)) in
       (λ yes. subst HasFirst (sym (out_is st a m is to.0)) (next.0 (sym same ∙ yes)), λ some. same ∙ next.1 (subst HasFirst (out_is st a m is to.0) some))
 
-  pub messages_none : None ≡ slice_get (waiting_for core.out (peer.Machine to)) 0 → OfEach (IsSaverOf meaning) x (λ st a m. m.part.out to.0 ≡ [])
+  pub messages_none : None ≡ slice_get (waiting_for core.out (peer.Machine to)) 0 → OfEach (IsLockingMachineOf meaning) x (λ st a m. m.part.out to.0 ≡ [])
   messages_none none st a m snap is = out_is st a m is to.0 ∙ no_message (waiting_for core.out (peer.Machine to)) none
 
   module _ (out : OutboxesView) (behind : out ≡ with_outbox core.out (peer.Machine to) (without_first (outbox_to core.out (peer.Machine to)))) where
     abbrev sent_core : Core
     sent_core = record core { out = out }
 
-    pub messages_still : None ≡ slice_get (waiting_for core.out (peer.Machine to)) 0 → StandsStill (IsSaverOf meaning) x (record x { machine = record x.machine { core = sent_core } })
+    pub messages_still : None ≡ slice_get (waiting_for core.out (peer.Machine to)) 0 → StandsStill (IsLockingMachineOf meaning) x (record x { machine = record x.machine { core = sent_core } })
     messages_still none st a m snap is =
-        subst (λ (c : Core). IsSaverOf meaning st a m (record x { machine = record x.machine { core = c } })) (sym (ap (λ (o : OutboxesView). record core { out = o }) (none_taken core.out out to behind none))) is
+        subst (λ (c : Core). IsLockingMachineOf meaning st a m (record x { machine = record x.machine { core = c } })) (sym (ap (λ (o : OutboxesView). record core { out = o }) (none_taken core.out out to behind none))) is
 
     pub message_taken : (one : message.Message) → Some (message_view one) ≡ slice_get (waiting_for core.out (peer.Machine to)) 0 → SameSettings core sent_core
-        → OfEach (IsSaverOf meaning) x (SendsItsFirst (IsSaverOf meaning) to.0 one (record x { machine = record x.machine { core = sent_core }; counts = record x.counts { sent = one_more x.counts.sent } }))
+        → OfEach (IsLockingMachineOf meaning) x (SendsItsFirst (IsLockingMachineOf meaning) to.0 one (record x { machine = record x.machine { core = sent_core }; counts = record x.counts { sent = one_more x.counts.sent } }))
     message_taken one first settings st a m snap is =
         let taken = first_taken core.out out to behind one first in
-        let here_first : m.part.out to.0 ≡ told_by one ∷ taken.0 = out_is st a m is to.0 ∙ taken.1 ∙ ap (λ (t : Message). t ∷ taken.0) (sym (read_alike (message_view one))) in
+        let here_first : m.part.out to.0 ≡ view_of one ∷ taken.0 = out_is st a m is to.0 ∙ taken.1 ∙ ap (λ (t : Message). t ∷ taken.0) (sym (read_alike (message_view one))) in
         let new : Machine = hands to.0 taken.0 m in
         let held : with_snaps x.machine.kept (part_of sent_core) ≡ record (part_held x) { out = set_at (part_held x).out to.0 taken.0 } = (λ i. record (part_held x) { out = λ q. taken.2 q i }) in
         let alike : LooksAlike st a new.part (record (part_held x) { out = set_at (part_held x).out to.0 taken.0 }) =
@@ -228,7 +228,7 @@ module _ {P : Type 0} (meaning : P → Update) (x : SaverView P) (to : MachineNo
               behind = is.kept.behind;
               unsure = is.kept.unsure;
             };
-            counts = counts_sent st x.counts m new is.counts to.0 (told_by one) taken.0 low here_first refl refl refl refl;
+            counts = counts_sent st x.counts m new is.counts to.0 (view_of one) taken.0 low here_first refl refl refl refl;
             none_held = is.none_held;
             plans = record { many = is.plans.many; planned = is.plans.planned; others = is.plans.others };
             saved = subst (IsSavedRight st a) (sym held)

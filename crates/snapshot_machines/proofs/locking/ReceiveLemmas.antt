@@ -13,7 +13,7 @@ use Rattle.cluster_laws.specs.cluster_core.Marks.{IsMarking, mark_of}
 use Rattle.cluster_laws.specs.cluster_core.Messages.{Ask, Done, Message, News, Ready}
 use Rattle.cluster_laws.specs.cluster_core.Parts.{Part}
 use Rattle.whole_laws.proofs.cluster_ending.Growing.{received_longer}
-use Rattle.coordinator.specs.machine_api.Told.{told_by}
+use Rattle.coordinator.specs.machine_api.Told.{view_of}
 use Rattle.cluster_laws.specs.cluster_model.Clusters.{Cluster}
 use Rattle.cluster_laws.specs.cluster_model.Working.{prompt, receives, snapshot_in}
 use Rattle.cluster_laws.proofs.cluster_moves.DueKept.{received_kept}
@@ -41,15 +41,15 @@ use Rattle.snapshot_machines.proofs.wave_counts.CountLemmas.{counts_put_out, cou
 use Rattle.wire.specs.declared.wire_msgs.messages.Done as word
 use Rattle.wire.specs.declared.wire_msgs.messages.Message as message
 use Rattle.wire.specs.declared.wire_msgs.messages.Message.TheVariants as sent
-use Rattle.snapshot_machines.specs.locking.Savers.{CountsView, IsCountOf, IsMarkedOwn, IsSaverOf, IsSavedRight, LooksAlike, Machine, SaverView, Setting, part_held, part_of, place_at, size, with_snaps}
+use Rattle.snapshot_machines.specs.locking.Machines.{CountsView, IsCountOf, IsMarkedOwn, IsLockingMachineOf, IsSavedRight, LooksAlike, Machine, LockingMachineView, Setting, part_held, part_of, place_at, size, with_snaps}
 use Rattle.snapshot_machines.proofs.locking.StandLemmas.{alike_to, kept_from, plans_kept, still_stands}
 use Rattle.snapshot_machines.proofs.locking.ScopeLemmas.{goes_on_standing, with_core}
 use Rattle.snapshot_machines.proofs.locking.HearLemmas.{HasBegunKept, begins_right, begun_kept, once_begun}
 
 -- ---- what comes is at the front for the machine's parts
 
-pub front_for : {P : Type 0} (meaning : P → Update) (x : SaverView P) (p : ℕ) (m : message.Message) (st : Setting) (c : Cluster) (a : ℕ) → IsOrderly x.machine.core → IsFirstFrom (IsSaverOf meaning) x p m st c a
-    → IsFrontFor st c p x.machine.core x.machine.kept (told_by m)
+pub front_for : {P : Type 0} (meaning : P → Update) (x : LockingMachineView P) (p : ℕ) (m : message.Message) (st : Setting) (c : Cluster) (a : ℕ) → IsOrderly x.machine.core → IsFirstFrom (IsLockingMachineOf meaning) x p m st c a
+    → IsFrontFor st c p x.machine.core x.machine.kept (view_of m)
 front_for meaning x p m st c a orderly front =
     record {
       setting = front.setting.is;
@@ -58,19 +58,19 @@ front_for meaning x p m st c a orderly front =
       part = front.here.here;
       holds = subst (λ (k : ℕ). LooksAlike st k (c.machine k).part (part_held x)) (sym front.here.number) front.here.part;
       behind = front.behind;
-      first = subst (λ (k : ℕ). c.link p k ≡ told_by m ∷ front.behind) (sym front.here.number) front.first;
+      first = subst (λ (k : ℕ). c.link p k ≡ view_of m ∷ front.behind) (sym front.here.number) front.first;
     }
 
-module _ {P : Type 0} (meaning : P → Update) (x : SaverView P) (p : ℕ) (orderly : IsOrderly x.machine.core) where
-  pub ask_new : (s : ScopeId) (centre : Vertex) (rest : Vec MachineNo Global) → MayReceiveFirst (IsSaverOf meaning) x p (sent.Ask s centre rest) → IsNewAt x.machine.core s centre × AreMachinesFor x.machine.core s rest.items
+module _ {P : Type 0} (meaning : P → Update) (x : LockingMachineView P) (p : ℕ) (orderly : IsOrderly x.machine.core) where
+  pub ask_new : (s : ScopeId) (centre : Vertex) (rest : Vec MachineNo Global) → MayReceiveFirst (IsLockingMachineOf meaning) x p (sent.Ask s centre rest) → IsNewAt x.machine.core s centre × AreMachinesFor x.machine.core s rest.items
   ask_new s centre rest may =
       let front = front_for meaning x p (sent.Ask s centre rest) may.0 may.1 may.2 orderly may.3 in
       (ask_comes_new may.0 may.1 p x.machine.core x.machine.kept s centre (machine_numbers rest.items) front, ask_goes_further may.0 may.1 p x.machine.core x.machine.kept s centre rest.items front)
 
-  pub ready_home : (s : ScopeId) → MayReceiveFirst (IsSaverOf meaning) x p (sent.Ready s) → CanBecomeReady x.machine.core s
+  pub ready_home : (s : ScopeId) → MayReceiveFirst (IsLockingMachineOf meaning) x p (sent.Ready s) → CanBecomeReady x.machine.core s
   ready_home s may = ready_comes_home may.0 may.1 p x.machine.core x.machine.kept s (front_for meaning x p (sent.Ready s) may.0 may.1 may.2 orderly may.3)
 
-  pub done_learned : (done : word.Done) → MayReceiveFirst (IsSaverOf meaning) x p (sent.Done done) → CanLearnNews x.machine.core done
+  pub done_learned : (done : word.Done) → MayReceiveFirst (IsLockingMachineOf meaning) x p (sent.Done done) → CanLearnNews x.machine.core done
   done_learned done may = news_come may.0 may.1 p x.machine.core x.machine.kept done (front_for meaning x p (sent.Done done) may.0 may.1 may.2 orderly may.3)
 
 -- ---- it is counted
@@ -84,16 +84,16 @@ receipt_counts st a message m counts is =
     let one : Machine = record new { received = m.received } in
     counts_received st counts one new (counts_put_out st counts m one is (received_longer st a message m.part) refl refl refl) refl refl refl refl
 
-module _ {P : Type 0} (meaning : P → Update) (x : SaverView P) where
+module _ {P : Type 0} (meaning : P → Update) (x : LockingMachineView P) where
   abbrev pub received_more : CountsView
   received_more = record x.counts { received = one_more x.counts.received }
 
   module _ (now : Core) (numbers : now.numbers ≡ x.machine.core.numbers) (settings : SameSettings x.machine.core now) where
-    abbrev moved : SaverView P
+    abbrev moved : LockingMachineView P
     moved = record x { machine = with_core now x.machine; counts = received_more }
 
-    on_standing : (st : Setting) (a : ℕ) (m : Machine) (message : Message) → snapshot_in message ≡ 0 → IsSnapSetting st → IsSaverOf meaning st a m x → with_snaps x.machine.kept (part_of now) ≡ received st a message (part_held x)
-        → IsSaverOf meaning st a (prompt st a (receives st a message m)) moved
+    on_standing : (st : Setting) (a : ℕ) (m : Machine) (message : Message) → snapshot_in message ≡ 0 → IsSnapSetting st → IsLockingMachineOf meaning st a m x → with_snaps x.machine.kept (part_of now) ≡ received st a message (part_held x)
+        → IsLockingMachineOf meaning st a (prompt st a (receives st a message m)) moved
     on_standing st a m message plain snap is held =
         let new : Machine = receives st a message m in
         let none : nat_lt m.part.known (snapshot_in message) ≡ false = ap (nat_lt m.part.known) plain ∙ not_below_none m.part.known in
@@ -114,7 +114,7 @@ module _ {P : Type 0} (meaning : P → Update) (x : SaverView P) where
         })
         (receipt_counts st a message m x.counts is.counts))
 
-    pub ask_received : (p : ℕ) (s : ScopeId) (centre : Vertex) (rest : Vec MachineNo Global) → HasReceivedMessage x.machine.core now (Ask s centre.0 (machine_numbers rest.items)) → HasReceived (IsSaverOf meaning) x p (sent.Ask s centre rest) moved
+    pub ask_received : (p : ℕ) (s : ScopeId) (centre : Vertex) (rest : Vec MachineNo Global) → HasReceivedMessage x.machine.core now (Ask s centre.0 (machine_numbers rest.items)) → HasReceived (IsLockingMachineOf meaning) x p (sent.Ask s centre rest) moved
     ask_received p s centre rest has st c a front =
         let w = x.machine.kept in
         let part = part_of x.machine.core in
@@ -122,7 +122,7 @@ module _ {P : Type 0} (meaning : P → Update) (x : SaverView P) where
         (ap (with_snaps w) (has st front.here.here ∙ ap (λ (k : ℕ). received st k (Ask s centre.0 (machine_numbers rest.items)) part) front.here.number)
         ∙ sym (on_apart st a s centre.0 0 (machine_numbers rest.items) w part))
 
-    pub ready_received : (p : ℕ) (s : ScopeId) → HasReceivedMessage x.machine.core now (Ready s) → HasReceived (IsSaverOf meaning) x p (sent.Ready s) moved
+    pub ready_received : (p : ℕ) (s : ScopeId) → HasReceivedMessage x.machine.core now (Ready s) → HasReceived (IsLockingMachineOf meaning) x p (sent.Ready s) moved
     ready_received p s has st c a front =
         on_standing st a (c.machine a) (Ready s) refl front.setting front.here
         (ap (with_snaps x.machine.kept) (has st front.here.here ∙ ap (λ (k : ℕ). received st k (Ready s) (part_of x.machine.core)) front.here.number))
@@ -160,7 +160,7 @@ unmarked_yet st c p a s news behind whole first u owned pends =
     let one = marking.1 u pends in
     subst (λ (b : ℕ). ((c.machine b).part.datum u).mark < news.number) owned (subst (λ (k : ℕ). mark_of st (world_of c) u < k) (sym one.0) one.1)
 
-module _ {P : Type 0} (meaning : P → Update) (x : SaverView P) (now : SnapMachineView P) (done : word.Done) (not_own : is_own x.machine.core.numbers.local done.centre.0 ≡ false)
+module _ {P : Type 0} (meaning : P → Update) (x : LockingMachineView P) (now : SnapMachineView P) (done : word.Done) (not_own : is_own x.machine.core.numbers.local done.centre.0 ≡ false)
     (learned : HasLearnedNews x.machine.core x.machine.kept now.core now.kept done) (same : IsSameButRoom (with_begun done.number x.machine.kept) now.kept)
     (tasks : let t = now.core.numbers.tasks in t ≡ record x.machine.core.numbers.tasks { task = t.task; pending = t.pending; asked = t.asked })
     (local : now.core.numbers.local ≡ record x.machine.core.numbers.local { numbers = now.core.numbers.local.numbers }) (program : now.program ≡ x.machine.program) (settings : SameSettings x.machine.core now.core) where
@@ -170,10 +170,10 @@ module _ {P : Type 0} (meaning : P → Update) (x : SaverView P) (now : SnapMach
   abbrev news : News
   news = news_of done
 
-  abbrev told : SaverView P
+  abbrev told : LockingMachineView P
   told = record x { machine = now; counts = received_more meaning x }
 
-  module _ (st : Setting) (a : ℕ) (m : Machine) (snap : IsSnapSetting st) (is : IsSaverOf meaning st a m x) (unmarked : (u : ℕ) → st.owner u ≡ a → news.pends u ≡ true → (m.part.datum u).mark < news.number) where
+  module _ (st : Setting) (a : ℕ) (m : Machine) (snap : IsSnapSetting st) (is : IsLockingMachineOf meaning st a m x) (unmarked : (u : ℕ) → st.owner u ≡ a → news.pends u ≡ true → (m.part.datum u).mark < news.number) where
     abbrev new : Machine
     new = receives st a (Done done.scope news) m
 
@@ -199,7 +199,7 @@ module _ {P : Type 0} (meaning : P → Update) (x : SaverView P) (now : SnapMach
     kept : HasBegunKept done.number m now.kept
     kept = begun_kept done.number m x.machine.kept now.kept is.kept same
 
-    pub done_standing : IsSaverOf meaning st a new told
+    pub done_standing : IsLockingMachineOf meaning st a new told
     done_standing =
         record {
           here = settings st is.here;
@@ -219,10 +219,10 @@ module _ {P : Type 0} (meaning : P → Update) (x : SaverView P) (now : SnapMach
           reports = is.reports;
         }
 
-  pub done_received : (p : ℕ) → HasReceived (IsSaverOf meaning) x p (sent.Done done) told
+  pub done_received : (p : ℕ) → HasReceived (IsLockingMachineOf meaning) x p (sent.Done done) told
   done_received p st c a front =
       still_stands meaning st a (receives st a (Done done.scope news) (c.machine a)) told
       (done_standing st a (c.machine a) front.setting front.here (unmarked_yet st c p a done.scope news front.behind front.going.followed.0 front.first))
 
-  pub done_now : (p : ℕ) (counts : CountsView) → counts ≡ record x.counts { received = one_more x.counts.received } → HasReceived (IsSaverOf meaning) x p (sent.Done done) (record x { machine = now; counts = counts })
-  done_now p counts counted = subst (λ (k : CountsView). HasReceived (IsSaverOf meaning) x p (sent.Done done) (record x { machine = now; counts = k })) (sym counted) (done_received p)
+  pub done_now : (p : ℕ) (counts : CountsView) → counts ≡ record x.counts { received = one_more x.counts.received } → HasReceived (IsLockingMachineOf meaning) x p (sent.Done done) (record x { machine = now; counts = counts })
+  done_now p counts counted = subst (λ (k : CountsView). HasReceived (IsLockingMachineOf meaning) x p (sent.Done done) (record x { machine = now; counts = k })) (sym counted) (done_received p)

@@ -35,7 +35,7 @@ use Rattle.coordinator.specs.machine_api.Promises.{CanAdmit, CanDo, CanNotAdmit,
 use Rattle.task_sets.specs.task_sched.Tasks.{is_flagged, is_open}
 use Rattle.task_sets.specs.declared.task_sched.task_sets.Pick.{Pick}
 use Rattle.snapshot_machines.proofs.wave_counts.CountLemmas.{counts_put_out}
-use Rattle.snapshot_machines.specs.locking.Savers.{ArePlansOf, AreToldReports, CountsView, IsCountOf, IsSaverOf, IsSavedRight, LooksAlike, Machine, SaverView, Setting, SnapView, flag_there, part_held, part_of, place_at, with_snaps}
+use Rattle.snapshot_machines.specs.locking.Machines.{ArePlansOf, AreToldReports, CountsView, IsCountOf, IsLockingMachineOf, IsSavedRight, LooksAlike, Machine, LockingMachineView, Setting, SnapView, flag_there, part_held, part_of, place_at, with_snaps}
 use Rattle.snapshot_machines.proofs.locking.StandLemmas.{alike_to, kept_from, plans_kept, room_is, saved_kept, saved_numbers, still_stands}
 
 -- ---- the same machine but for its parts
@@ -53,7 +53,7 @@ turn_without : (engine : Engine) (pipeline v : ℕ) (w : SnapView) (part : Part)
 turn_without Locking pipeline v w part turn = turn
 turn_without (Chromatic colour colours) pipeline v w part turn = turn
 
-module _ {P : Type 0} (meaning : P → Update) (st : Setting) (a : ℕ) (m : Machine) (x : SaverView P) (is : IsSaverOf meaning st a m x) where
+module _ {P : Type 0} (meaning : P → Update) (st : Setting) (a : ℕ) (m : Machine) (x : LockingMachineView P) (is : IsLockingMachineOf meaning st a m x) where
   abbrev core : Core
   core = x.machine.core
 
@@ -151,7 +151,7 @@ pending_with : (t : TasksView) (v : Vertex) (b : Bool) → (with_pick t (record 
 pending_with t v true = refl
 pending_with t v false = refl
 
-module _ {P : Type 0} (meaning : P → Update) (x : SaverView P) (orderly : IsOrderly x.machine.core) (places : KnowsPlaces x.machine.core) (counted : x.machine.core.numbers.tasks.outside ≡ outside_of x.machine.kept) where
+module _ {P : Type 0} (meaning : P → Update) (x : LockingMachineView P) (orderly : IsOrderly x.machine.core) (places : KnowsPlaces x.machine.core) (counted : x.machine.core.numbers.tasks.outside ≡ outside_of x.machine.kept) where
   abbrev old : Core
   old = x.machine.core
 
@@ -160,7 +160,7 @@ module _ {P : Type 0} (meaning : P → Update) (x : SaverView P) (orderly : IsOr
     pick_is : place_at old.numbers.local has.can.vertex.0 ≡ Some has.can.pick.vertex.0
     pick_is = places.vertices.place has.can.pick.vertex.0 has.can.vertex has.can.place
 
-    module _ (st : Setting) (a : ℕ) (m : Machine) (snap : IsSnapSetting st) (is : IsSaverOf meaning st a m x) where
+    module _ (st : Setting) (a : ℕ) (m : Machine) (snap : IsSnapSetting st) (is : IsLockingMachineOf meaning st a m x) where
       abbrev centre : ℕ
       centre = has.can.vertex.0
 
@@ -215,7 +215,7 @@ module _ {P : Type 0} (meaning : P → Update) (x : SaverView P) (orderly : IsOr
           ap (λ (n : Numbers). (part_of (record old { numbers = n })).pending u) has.numbers
           ∙ ap (λ fs. flag_there fs (place_at old.numbers.local u)) (pending_with old.numbers.tasks has.can.pick.vertex has.can.pick.snapshot)
 
-      admission_stands : IsSaverOf meaning st a new (record x { machine = with_core now x.machine })
+      admission_stands : IsLockingMachineOf meaning st a new (record x { machine = with_core now x.machine })
       admission_stands =
           record {
             here = settings st is.here;
@@ -234,11 +234,11 @@ module _ {P : Type 0} (meaning : P → Update) (x : SaverView P) (orderly : IsOr
             reports = is.reports;
           }
 
-    pub admitted_some : HasAdmittedSome (IsSaverOf meaning) x (record x { machine = with_core now x.machine })
+    pub admitted_some : HasAdmittedSome (IsLockingMachineOf meaning) x (record x { machine = with_core now x.machine })
     admitted_some st a m snap is =
         (has.can.vertex.0, may_now st a m snap is, still_stands meaning st a (admits st a has.can.vertex.0 m) (record x { machine = with_core now x.machine }) (admission_stands st a m snap is))
 
-  pub can_admit : CanAdmitPick old → CanAdmit (IsSaverOf meaning) x
+  pub can_admit : CanAdmitPick old → CanAdmit (IsLockingMachineOf meaning) x
   can_admit can st a m snap is = (
     can.vertex.0,
     record {
@@ -250,7 +250,7 @@ module _ {P : Type 0} (meaning : P → Update) (x : SaverView P) (orderly : IsOr
     },
   )
 
-  pub can_not_admit : MayAdmitNone old → CanNotAdmit (IsSaverOf meaning) x
+  pub can_not_admit : MayAdmitNone old → CanNotAdmit (IsLockingMachineOf meaning) x
   can_not_admit none st a m snap is v may =
       none st is.here v
       (⊎_elim
@@ -261,7 +261,7 @@ module _ {P : Type 0} (meaning : P → Update) (x : SaverView P) (orderly : IsOr
 
   -- where there was no memory
   pub admission_back : ((u : ℕ) → is_flagged old.numbers.tasks.admitted u ≡ false → is_flagged old.numbers.tasks.planned u ≡ false) → (now : Core) → KeepsPlans old now → now.numbers.local ≡ old.numbers.local → part_of now ≡ part_of old → SameSettings old now
-      → StandsStill (IsSaverOf meaning) x (record x { machine = with_core now x.machine })
+      → StandsStill (IsLockingMachineOf meaning) x (record x { machine = with_core now x.machine })
   admission_back free now plans local part settings st a m snap is =
       let same : HaveSamePlans old.numbers.tasks now.numbers.tasks = plans free in
       let held : with_snaps x.machine.kept (part_of now) ≡ part_held x = ap (with_snaps x.machine.kept) part in
@@ -302,12 +302,12 @@ pub record HasSameRest (m new : Machine) : Type 0 where
   pub held : new.held ≡ m.held
   pub out : new.out ≡ m.out
 
-module _ {P : Type 0} (meaning : P → Update) (x : SaverView P) (now : Core) (numbers : now.numbers ≡ x.machine.core.numbers) (settings : SameSettings x.machine.core now) where
-  abbrev moved : CountsView → SaverView P
+module _ {P : Type 0} (meaning : P → Update) (x : LockingMachineView P) (now : Core) (numbers : now.numbers ≡ x.machine.core.numbers) (settings : SameSettings x.machine.core now) where
+  abbrev moved : CountsView → LockingMachineView P
   moved counts = record x { machine = with_core now x.machine; counts = counts }
 
-  pub goes_on_standing : (st : Setting) (a : ℕ) (m new : Machine) (counts : CountsView) → IsSaverOf meaning st a m x → LooksAlike st a new.part (with_snaps x.machine.kept (part_of now)) → IsKept m.part new.part
-      → HasSameRest m new → IsCountOf st counts new → IsSaverOf meaning st a new (moved counts)
+  pub goes_on_standing : (st : Setting) (a : ℕ) (m new : Machine) (counts : CountsView) → IsLockingMachineOf meaning st a m x → LooksAlike st a new.part (with_snaps x.machine.kept (part_of now)) → IsKept m.part new.part
+      → HasSameRest m new → IsCountOf st counts new → IsLockingMachineOf meaning st a new (moved counts)
   goes_on_standing st a m new counts is alike kept same counted =
       record {
         here = settings st is.here;
@@ -325,7 +325,7 @@ module _ {P : Type 0} (meaning : P → Update) (x : SaverView P) (now : Core) (n
         reports = subst (AreToldReports x.reports.messages) (sym same.out) is.reports;
       }
 
-  pub granted_one : (v : ℕ) → MayGrantLock x.machine.core v → HasGrantedLock x.machine.core now v → HasDone (IsSaverOf meaning) x (Grant v) (moved x.counts)
+  pub granted_one : (v : ℕ) → MayGrantLock x.machine.core v → HasGrantedLock x.machine.core now v → HasDone (IsLockingMachineOf meaning) x (Grant v) (moved x.counts)
   granted_one v may has st a m snap is =
       let new : Machine = grants st a v m in
       let held : with_snaps x.machine.kept (part_of now) ≡ granted st a v (part_held x) =
@@ -339,17 +339,17 @@ module _ {P : Type 0} (meaning : P → Update) (x : SaverView P) (now : Core) (n
             (counts_put_out st x.counts m new is.counts (granted_longer st a v m.part) refl refl refl)),
       )
 
-module _ {P : Type 0} (meaning : P → Update) (x : SaverView P) where
-  pub can_grant : (v : ℕ) → MayGrantLock x.machine.core v → CanDo (IsSaverOf meaning) x (Grant v)
+module _ {P : Type 0} (meaning : P → Update) (x : LockingMachineView P) where
+  pub can_grant : (v : ℕ) → MayGrantLock x.machine.core v → CanDo (IsLockingMachineOf meaning) x (Grant v)
   can_grant v may st a m snap is = grant_here meaning st a m x is v (may st is.here)
 
-  pub can_not_grant : (v : ℕ) → MayNotGrantLock x.machine.core v → CanNotDo (IsSaverOf meaning) x (Grant v)
+  pub can_not_grant : (v : ℕ) → MayNotGrantLock x.machine.core v → CanNotDo (IsLockingMachineOf meaning) x (Grant v)
   can_not_grant v not st a m snap is may = not st is.here (grant_there meaning st a m x is v may)
 
 -- ---- where the machine's part is as it was, with the same tasks
 
-pub stays_standing : {P : Type 0} (meaning : P → Update) (x : SaverView P) (now : Core) → now.numbers ≡ x.machine.core.numbers → part_of now ≡ part_of x.machine.core → SameSettings x.machine.core now
-    → StandsStill (IsSaverOf meaning) x (record x { machine = with_core now x.machine })
+pub stays_standing : {P : Type 0} (meaning : P → Update) (x : LockingMachineView P) (now : Core) → now.numbers ≡ x.machine.core.numbers → part_of now ≡ part_of x.machine.core → SameSettings x.machine.core now
+    → StandsStill (IsLockingMachineOf meaning) x (record x { machine = with_core now x.machine })
 stays_standing meaning x now numbers part settings st a m snap is =
     let held : with_snaps x.machine.kept (part_of now) ≡ part_held x = ap (with_snaps x.machine.kept) part in
     record {
@@ -369,27 +369,27 @@ stays_standing meaning x now numbers part settings st a m snap is =
 
 -- ---- as the machine is seen behind a call
 
-module _ {P : Type 0} (x : SaverView P) (now : SnapMachineView P) (kept : now.kept ≡ x.machine.kept) (program : now.program ≡ x.machine.program) where
-  pub to_now : (counts : CountsView) (Q : SaverView P → Type 0) → Q (record x { machine = with_core now.core x.machine; counts = counts }) → Q (record x { machine = now; counts = counts })
+module _ {P : Type 0} (x : LockingMachineView P) (now : SnapMachineView P) (kept : now.kept ≡ x.machine.kept) (program : now.program ≡ x.machine.program) where
+  pub to_now : (counts : CountsView) (Q : LockingMachineView P → Type 0) → Q (record x { machine = with_core now.core x.machine; counts = counts }) → Q (record x { machine = now; counts = counts })
   to_now counts Q it = subst Q (λ i. record x { machine = record { core = now.core; kept = sym kept i; program = sym program i }; counts = counts }) it
 
 -- ---- what a call answers
 
-module _ {P : Type 0} (meaning : P → Update) (x : SaverView P) (now : SnapMachineView P) (kept : now.kept ≡ x.machine.kept) (program : now.program ≡ x.machine.program) (settings : SameSettings x.machine.core now.core) where
+module _ {P : Type 0} (meaning : P → Update) (x : LockingMachineView P) (now : SnapMachineView P) (kept : now.kept ≡ x.machine.kept) (program : now.program ≡ x.machine.program) (settings : SameSettings x.machine.core now.core) where
   pub admitted_now : IsOrderly x.machine.core → KnowsPlaces x.machine.core → x.machine.core.numbers.tasks.outside ≡ outside_of x.machine.kept → length x.machine.core.numbers.tasks.planned ≡ length x.machine.core.numbers.tasks.task
       → ((u : ℕ) → is_flagged x.machine.core.numbers.tasks.admitted u ≡ false → is_flagged x.machine.core.numbers.tasks.planned u ≡ false) → HasAdmittedPick x.machine.core now.core
-      → HasAdmittedSome (IsSaverOf meaning) x (record x { machine = now })
+      → HasAdmittedSome (IsLockingMachineOf meaning) x (record x { machine = now })
   admitted_now orderly places counted flags free has =
-      to_now x now kept program x.counts (HasAdmittedSome (IsSaverOf meaning) x) (admitted_some meaning x orderly places counted flags free now.core has settings)
+      to_now x now kept program x.counts (HasAdmittedSome (IsLockingMachineOf meaning) x) (admitted_some meaning x orderly places counted flags free now.core has settings)
 
   pub admission_back_now : IsOrderly x.machine.core → KnowsPlaces x.machine.core → x.machine.core.numbers.tasks.outside ≡ outside_of x.machine.kept
       → ((u : ℕ) → is_flagged x.machine.core.numbers.tasks.admitted u ≡ false → is_flagged x.machine.core.numbers.tasks.planned u ≡ false) → KeepsPlans x.machine.core now.core → now.core.numbers.local ≡ x.machine.core.numbers.local
-      → part_of now.core ≡ part_of x.machine.core → StandsStill (IsSaverOf meaning) x (record x { machine = now })
+      → part_of now.core ≡ part_of x.machine.core → StandsStill (IsLockingMachineOf meaning) x (record x { machine = now })
   admission_back_now orderly places counted free plans local part =
-      to_now x now kept program x.counts (StandsStill (IsSaverOf meaning) x) (admission_back meaning x orderly places counted free now.core plans local part settings)
+      to_now x now kept program x.counts (StandsStill (IsLockingMachineOf meaning) x) (admission_back meaning x orderly places counted free now.core plans local part settings)
 
-  pub granted_now : now.core.numbers ≡ x.machine.core.numbers → (v : ℕ) → MayGrantLock x.machine.core v → HasGrantedLock x.machine.core now.core v → HasDone (IsSaverOf meaning) x (Grant v) (record x { machine = now })
-  granted_now numbers v may has = to_now x now kept program x.counts (HasDone (IsSaverOf meaning) x (Grant v)) (granted_one meaning x now.core numbers settings v may has)
+  pub granted_now : now.core.numbers ≡ x.machine.core.numbers → (v : ℕ) → MayGrantLock x.machine.core v → HasGrantedLock x.machine.core now.core v → HasDone (IsLockingMachineOf meaning) x (Grant v) (record x { machine = now })
+  granted_now numbers v may has = to_now x now kept program x.counts (HasDone (IsLockingMachineOf meaning) x (Grant v)) (granted_one meaning x now.core numbers settings v may has)
 
-  pub grant_back_now : now.core.numbers ≡ x.machine.core.numbers → part_of now.core ≡ part_of x.machine.core → StandsStill (IsSaverOf meaning) x (record x { machine = now })
-  grant_back_now numbers part = to_now x now kept program x.counts (StandsStill (IsSaverOf meaning) x) (stays_standing meaning x now.core numbers part settings)
+  pub grant_back_now : now.core.numbers ≡ x.machine.core.numbers → part_of now.core ≡ part_of x.machine.core → StandsStill (IsLockingMachineOf meaning) x (record x { machine = now })
+  grant_back_now numbers part = to_now x now kept program x.counts (StandsStill (IsLockingMachineOf meaning) x) (stays_standing meaning x now.core numbers part settings)

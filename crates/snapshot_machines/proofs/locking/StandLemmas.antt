@@ -16,7 +16,7 @@ use Rattle.coordinator.specs.snap_update.Snaps.{IsSameButRoom, outside_of}
 use Rattle.coordinator.specs.machine_api.Going.{IsSnapSetting}
 use Rattle.coordinator.specs.machine_api.Promises.{StandsStill}
 use Rattle.task_sets.specs.task_sched.Tasks.{is_below, is_open}
-use Rattle.snapshot_machines.specs.locking.Savers.{ArePlansOf, AreToldReports, IsMarkedOwn, IsSaverOf, IsSavedOnce, IsSavedRight, IsSnapPartOf, LooksAlike, Machine, Part, ReportsView, SaverView, Setting, SnapView, flag_there, part_held, part_of, place_at, with_snaps}
+use Rattle.snapshot_machines.specs.locking.Machines.{ArePlansOf, AreToldReports, IsMarkedOwn, IsLockingMachineOf, IsSavedOnce, IsSavedRight, IsSnapPartOf, LooksAlike, Machine, Part, ReportsView, LockingMachineView, Setting, SnapView, flag_there, part_held, part_of, place_at, with_snaps}
 
 -- ---- a machine that holds no wave
 
@@ -47,12 +47,12 @@ alike_to st a one other new alike same = subst (LooksAlike st a one) (sym same) 
 
 -- ---- the machine of the law
 
-module _ {P : Type 0} (meaning : P → Update) (st : Setting) (a : ℕ) (m : Machine) (x : SaverView P) (is : IsSaverOf meaning st a m x) where
+module _ {P : Type 0} (meaning : P → Update) (st : Setting) (a : ℕ) (m : Machine) (x : LockingMachineView P) (is : IsLockingMachineOf meaning st a m x) where
   pub closed_is : m.part.closed ≡ true
   closed_is = ap (λ (p : Part). p.closed) is.part.rest
 
-  pub still_stands : IsSaverOf meaning st a (prompt st a m) x
-  still_stands = subst (λ (n : Machine). IsSaverOf meaning st a n x) (sym (prompt_still st a m is.none_held closed_is)) is
+  pub still_stands : IsLockingMachineOf meaning st a (prompt st a m) x
+  still_stands = subst (λ (n : Machine). IsLockingMachineOf meaning st a n x) (sym (prompt_still st a m is.none_held closed_is)) is
 
   pub outside_is : outside m ≡ outside_of x.machine.kept
   outside_is = λ i. sum_by (λ (n : ℕ). n) (is.kept.unsure i) + length (is.kept.before i) + length (is.kept.behind i)
@@ -101,10 +101,10 @@ saved_numbers st a w old new same right =
 
 -- ---- where nothing has changed but room
 
-module _ {P : Type 0} (meaning : P → Update) (x : SaverView P) (now : SnapMachineView P) (reports : ReportsView) (told : reports.messages ≡ x.reports.messages) (part : part_of now.core ≡ part_of x.machine.core) (same : IsSameButRoom x.machine.kept now.kept)
+module _ {P : Type 0} (meaning : P → Update) (x : LockingMachineView P) (now : SnapMachineView P) (reports : ReportsView) (told : reports.messages ≡ x.reports.messages) (part : part_of now.core ≡ part_of x.machine.core) (same : IsSameButRoom x.machine.kept now.kept)
     (tasks : now.core.numbers.tasks ≡ x.machine.core.numbers.tasks) (places : (v : ℕ) → place_at now.core.numbers.local v ≡ place_at x.machine.core.numbers.local v) (me : now.core.numbers.local.me ≡ x.machine.core.numbers.local.me)
     (program : now.program ≡ x.machine.program) (settings : SameSettings x.machine.core now.core) where
-  pub roomier_stands : StandsStill (IsSaverOf meaning) x (record x { machine = now; reports = reports })
+  pub roomier_stands : StandsStill (IsLockingMachineOf meaning) x (record x { machine = now; reports = reports })
   roomier_stands st a m snap is =
       let held : with_snaps now.kept (part_of now.core) ≡ part_held x = ap (λ (w : SnapView). with_snaps w (part_of now.core)) same ∙ ap (with_snaps x.machine.kept) part in
       let alike : LooksAlike st a m.part (with_snaps now.kept (part_of now.core)) = alike_to st a m.part (part_held x) (with_snaps now.kept (part_of now.core)) is.part held in
@@ -129,5 +129,5 @@ module _ {P : Type 0} (meaning : P → Update) (x : SaverView P) (now : SnapMach
       }
 
 -- only room for reports was made
-pub reports_stand : {P : Type 0} (meaning : P → Update) (x : SaverView P) (reports : ReportsView) → reports.messages ≡ x.reports.messages → StandsStill (IsSaverOf meaning) x (record x { reports = reports })
+pub reports_stand : {P : Type 0} (meaning : P → Update) (x : LockingMachineView P) (reports : ReportsView) → reports.messages ≡ x.reports.messages → StandsStill (IsLockingMachineOf meaning) x (record x { reports = reports })
 reports_stand meaning x reports told = roomier_stands meaning x x.machine reports told refl refl refl (λ v. refl) refl refl (λ st here. here)

@@ -44,7 +44,7 @@ use Rattle.wire.specs.wire_msgs.Views.{MessageView}
 use Rattle.wire.specs.wire_msgs.Views as wire
 use Rattle.snapshot_machines.specs.locking.Reports.{AreToldReports, ReportsView}
 use Rattle.snapshot_machines.specs.locking.Asking.{HasWanted, with_wish}
-use Rattle.snapshot_machines.specs.locking.Savers.{ArePlansOf, IsSaverOf, IsSavedOnce, IsSavedRight, LooksAlike, Machine, SaverView, Setting, SnapView, flag_there, part_held, part_of, place_at, size, with_snaps}
+use Rattle.snapshot_machines.specs.locking.Machines.{ArePlansOf, IsLockingMachineOf, IsSavedOnce, IsSavedRight, LooksAlike, Machine, LockingMachineView, Setting, SnapView, flag_there, part_held, part_of, place_at, size, with_snaps}
 use Rattle.snapshot_machines.proofs.locking.StandLemmas.{alike_to, kept_from, outside_is, saved_kept, still_stands}
 
 -- ---- reports
@@ -58,7 +58,7 @@ reports_push (one ∷ ms) (other ∷ rs) m r are tells = (are.0, reports_push ms
 -- ---- what is asked for
 
 -- where the test passes it has asked
-abbrev asked_if : {P : Type 0} → Bool → SaverView P → SaverView P
+abbrev asked_if : {P : Type 0} → Bool → LockingMachineView P → LockingMachineView P
 asked_if test x =
     record x {
       machine = record x.machine { kept = record x.machine.kept { wanted = x.machine.kept.wanted || test } };
@@ -69,8 +69,8 @@ asked_reports : (test : Bool) (r : ReportsView) (k j : ℕ) (out : List Report) 
 asked_reports true r k j out same are = reports_push r.messages out (wire.Want k) (Want j) are (ap Want same, tt)
 asked_reports false r k j out same are = are
 
-module _ {P : Type 0} (meaning : P → Update) (st : Setting) (a : ℕ) (m : Machine) (x : SaverView P) (is : IsSaverOf meaning st a m x) where
-  asked_by : (test : Bool) → IsSaverOf meaning st a (asks_if test m) (asked_if test x)
+module _ {P : Type 0} (meaning : P → Update) (st : Setting) (a : ℕ) (m : Machine) (x : LockingMachineView P) (is : IsLockingMachineOf meaning st a m x) where
+  asked_by : (test : Bool) → IsLockingMachineOf meaning st a (asks_if test m) (asked_if test x)
   asked_by test =
       record {
         here = is.here;
@@ -101,10 +101,10 @@ module _ {P : Type 0} (meaning : P → Update) (st : Setting) (a : ℕ) (m : Mac
       ap (λ (b : Bool). b && not m.wanted && nat_le (half_window st) (outside m)) snap.stored
       ∙ (λ i. not (is.kept.wanted i) && nat_le ((sym is.window i + 1) / 2) (outside_is meaning st a m x is i))
 
-  pub asked_standing : IsSnapSetting st → (now : SaverView P) → HasWanted x now → IsSaverOf meaning st a (asks st m) now
+  pub asked_standing : IsSnapSetting st → (now : LockingMachineView P) → HasWanted x now → IsLockingMachineOf meaning st a (asks st m) now
   asked_standing snap now has =
-      subst (IsSaverOf meaning st a (asks st m)) (sym has)
-      (subst (λ (test : Bool). IsSaverOf meaning st a (asks_if test m) (asked_if (has_to_ask ((x.window + 1) / 2) x.machine.kept) x)) (sym (test_is snap)) (asked_by (has_to_ask ((x.window + 1) / 2) x.machine.kept)))
+      subst (IsLockingMachineOf meaning st a (asks st m)) (sym has)
+      (subst (λ (test : Bool). IsLockingMachineOf meaning st a (asks_if test m) (asked_if (has_to_ask ((x.window + 1) / 2) x.machine.kept) x)) (sym (test_is snap)) (asked_by (has_to_ask ((x.window + 1) / 2) x.machine.kept)))
 
 -- ---- an update
 
@@ -189,7 +189,7 @@ still_flies f s t u flies = ⊎_elim
     none_some : (v : ℕ) → None ≡ Some v → ⊥
     none_some v is = cc
 
-module _ {P : Type 0} (meaning : P → Update) (x : SaverView P) (now : SnapMachineView P) (reports : ReportsView) (orderly : IsOrderly x.machine.core) (s : ScopeId) (ticket : ℕ)
+module _ {P : Type 0} (meaning : P → Update) (x : LockingMachineView P) (now : SnapMachineView P) (reports : ReportsView) (orderly : IsOrderly x.machine.core) (s : ScopeId) (ticket : ℕ)
     (has : HasMadeUpdate (meaning x.machine.program) x.machine.core now.core s ticket) (run : HasRunOf x.machine.core now.core s) (logged : HasLogged x.machine.core x.machine.kept now.kept s ticket)
     (local : let old = x.machine.core.numbers.local in let new = now.core.numbers.local in new ≡ record old { kept = new.kept; rows = new.rows; numbers = new.numbers })
     (program : now.program ≡ x.machine.program) (settings : SameSettings x.machine.core now.core) (told : reports.messages ≡ x.reports.messages) where
@@ -205,7 +205,7 @@ module _ {P : Type 0} (meaning : P → Update) (x : SaverView P) (now : SnapMach
   abbrev entry : Entry
   entry = Go s.home (record { 0 = has.may.vertex }) ticket
 
-  abbrev worked : SaverView P
+  abbrev worked : LockingMachineView P
   worked = record x { machine = now; reports = reports }
 
   flies : flight_at old.pipe s ≡ Some (record { 0 = v })
@@ -223,7 +223,7 @@ module _ {P : Type 0} (meaning : P → Update) (x : SaverView P) (now : SnapMach
   run_is : HasRun old.numbers.tasks now.core.numbers.tasks place.0
   run_is = run (record { 0 = v }) place.0 flies place.1
 
-  module _ (st : Setting) (a : ℕ) (m : Machine) (snap : IsSnapSetting st) (is : IsSaverOf meaning st a m x) where
+  module _ (st : Setting) (a : ℕ) (m : Machine) (snap : IsSnapSetting st) (is : IsLockingMachineOf meaning st a m x) where
     abbrev new : Machine
     new = works_on st a s v entry m
 
@@ -290,7 +290,7 @@ module _ {P : Type 0} (meaning : P → Update) (x : SaverView P) (now : SnapMach
             by true = refl
             by false = refl
 
-    pub worked_standing : IsSaverOf meaning st a new worked
+    pub worked_standing : IsLockingMachineOf meaning st a new worked
     worked_standing =
         record {
           here = settings st is.here;
@@ -311,29 +311,29 @@ module _ {P : Type 0} (meaning : P → Update) (x : SaverView P) (now : SnapMach
         }
 
   -- the update is the machine's part of the event, and it asks for a snapshot where it has to
-  pub updated_one : (behind : SaverView P) → HasWanted worked behind → HasDone (IsSaverOf meaning) x (UpdateDeed s ticket) behind
+  pub updated_one : (behind : LockingMachineView P) → HasWanted worked behind → HasDone (IsLockingMachineOf meaning) x (UpdateDeed s ticket) behind
   updated_one behind asked st a m snap is =
       let may_m : MayUpdate s m.part 1 =
       update_may st a (part_held x) m.part (alike_turned st a m.part (part_held x) is.part) s 1
       (record { vertex = has.may.vertex; flight = has.may.flight; ready = has.may.ready; not_pending = has.may.not_pending; task = has.may.task; ticket = has.may.ticket }) in
       let new : Machine = makes_update st a s v entry m in
-      let stands : IsSaverOf meaning st a new behind = asked_standing meaning st a (works_on st a s v entry m) worked (worked_standing st a m snap is) snap behind asked in (
+      let stands : IsLockingMachineOf meaning st a new behind = asked_standing meaning st a (works_on st a s v entry m) worked (worked_standing st a m snap is) snap behind asked in (
         (home st a m snap is, may_m),
-        subst (λ (o : Option ℕ). IsSaverOf meaning st a (prompt st a (updates_centre st a s ticket o m)) behind) (sym (flight_same st a m snap is s ∙ has.may.flight))
+        subst (λ (o : Option ℕ). IsLockingMachineOf meaning st a (prompt st a (updates_centre st a s ticket o m)) behind) (sym (flight_same st a m snap is s ∙ has.may.flight))
             (still_stands meaning st a new behind stands),
       )
 
 -- ---- where no update is made
 
-module _ {P : Type 0} (meaning : P → Update) (x : SaverView P) (s : ScopeId) where
-  pub can_update : MayUpdate s (part_of x.machine.core) 1 → s.home ≡ x.machine.core.numbers.local.me → CanUpdate (IsSaverOf meaning) x s
+module _ {P : Type 0} (meaning : P → Update) (x : LockingMachineView P) (s : ScopeId) where
+  pub can_update : MayUpdate s (part_of x.machine.core) 1 → s.home ≡ x.machine.core.numbers.local.me → CanUpdate (IsLockingMachineOf meaning) x s
   can_update may home ticket st a m snap is = (
     ap (λ (n : MachineNo). n.0) home ∙ is.number,
     update_may st a (part_held x) m.part (alike_turned st a m.part (part_held x) is.part) s 1
         (record { vertex = may.vertex; flight = may.flight; ready = may.ready; not_pending = may.not_pending; task = may.task; ticket = may.ticket }),
   )
 
-  pub can_not_update : (MayUpdate s (part_of x.machine.core) 1 → ⊥) → (ticket : ℕ) → CanNotDo (IsSaverOf meaning) x (UpdateDeed s ticket)
+  pub can_not_update : (MayUpdate s (part_of x.machine.core) 1 → ⊥) → (ticket : ℕ) → CanNotDo (IsLockingMachineOf meaning) x (UpdateDeed s ticket)
   can_not_update not ticket st a m snap is may =
       let one = update_may st a m.part (part_held x) is.part s 1 may.1 in
       not (record { vertex = one.vertex; flight = one.flight; ready = one.ready; not_pending = one.not_pending; task = one.task; ticket = one.ticket })

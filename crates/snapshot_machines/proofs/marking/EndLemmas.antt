@@ -13,7 +13,7 @@ use Rattle.local_graph.specs.declared.sides.Side.{Side}
 use Rattle.local_graph.proofs.PlaceLemmas.{at_written}
 use Rattle.cluster_laws.specs.cluster_core.Effects.{part_seeded}
 use Rattle.partition.specs.declared.machine_numbers.keeping.Numbers.{Numbers}
-use Rattle.partition.specs.machine_numbers.Views.{AreTasksOf, LocalView, TasksView, flag_there, is_flagged, ghost_datum, is_named, own_datum, own_or_ghost}
+use Rattle.partition.specs.machine_numbers.Views.{AreTasksOf, LocalView, TasksView, flag_there, is_flagged, ghost_datum, is_in_update, own_datum, own_or_ghost}
 use Rattle.machine_core.specs.declared.machine_parts.cores.Core.{Core}
 use Rattle.machine_core.specs.machine_parts.Order.{IsOrderly}
 use Rattle.machine_core.specs.machine_parts.Parts.{number_of as number_in}
@@ -50,7 +50,7 @@ module _ (old pended : Numbers) (t : TasksView) (l : LocalView) (v : Vertex) (k 
     (admitted : (place : ℕ) → place_at old.local v.0 ≡ Some place → t.admitted ≡ slice_set old.tasks.admitted place false) (plans : (place : ℕ) → place_at old.local v.0 ≡ Some place → HasUnplanned old.tasks t place)
     (tasks : AreTasksOf old.local t)
     (flags : t ≡ record old.tasks { pending = t.pending; admitted = t.admitted; planned = t.planned; plans = t.plans })
-    (each : (u : ℕ) → pending_here pended u ≡ (is_named (ends_left old k old.local.me.0 (sides_at old.local v.0)) u || flag_there t.pending (place_at old.local u)))
+    (each : (u : ℕ) → pending_here pended u ≡ (is_in_update (ends_left old k old.local.me.0 (sides_at old.local v.0)) u || flag_there t.pending (place_at old.local u)))
     (rest : pended ≡ record old { tasks = record t { pending = pended.tasks.pending; asked = pended.tasks.asked } }) (is : d ≡ with_mark k (datum_here old v.0))
     (datum : (x : ℕ) → own_datum l x ≡ (if x == v.0 then Some d else own_datum pended.local x)) (kept : l ≡ record pended.local { kept = l.kept }) where
   local_same : pended.local ≡ old.local
@@ -89,7 +89,7 @@ module _ (old pended : Numbers) (t : TasksView) (l : LocalView) (v : Vertex) (k 
         datum = datum_now;
         pending = λ u.
             ap (flag_there pended.tasks.pending) (place_now u) ∙ ap (λ (m : LocalView). flag_there pended.tasks.pending (place_at m u)) (sym local_same) ∙ each u
-            ∙ ap (λ (b : Bool). is_named (ends_left old k old.local.me.0 (sides_at old.local v.0)) u || b) (ended u);
+            ∙ ap (λ (b : Bool). is_in_update (ends_left old k old.local.me.0 (sides_at old.local v.0)) u || b) (ended u);
         admitted = λ place at. ap (λ (s : TasksView). s.admitted) tasks_now ∙ admitted place at;
         plans = λ place at.
             let one = plans place at in

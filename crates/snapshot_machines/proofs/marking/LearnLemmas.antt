@@ -8,7 +8,7 @@ use Rattle.wire.specs.declared.wire_msgs.messages.Done.{Done}
 use Rattle.cluster_laws.specs.cluster_core.Effects.{begins, learns, newer_datum}
 use Rattle.partition.specs.declared.machine_numbers.keeping.Numbers.{Numbers}
 use Rattle.partition.specs.machine_numbers.Steps.{HasLearned}
-use Rattle.partition.specs.machine_numbers.Views.{LocalView, TasksView, datum_here, number_told, flag_there, is_named, is_own, place_at}
+use Rattle.partition.specs.machine_numbers.Views.{LocalView, TasksView, datum_here, number_told, flag_there, is_in_update, is_own, place_at}
 use Rattle.machine_core.specs.declared.machine_parts.cores.Core.{Core}
 use Rattle.machine_core.specs.machine_parts.Parts.{Part, pending_here}
 use Rattle.machine_core.specs.machine_parts.Settings.{SameSettings}
@@ -34,10 +34,10 @@ pub record IsPlain (done plain : Done) : Type 0 where
 -- a machine that has learned of an update, with nothing of a snapshot
 module _ (old new : Core) (plain : Done) (none : plain.pends.items ≡ []) (learned : HasLearned old.numbers new.numbers (news_of plain)) (tasks : new.numbers.tasks ≡ record old.numbers.tasks { task = new.numbers.tasks.task })
     (local : new.numbers.local ≡ record old.numbers.local { numbers = new.numbers.local.numbers }) (released : HasNoLock old.locks new.locks plain.scope) (rest : new ≡ record old { numbers = new.numbers; locks = new.locks }) where
-  still_pending : (u : ℕ) → pending_here new.numbers u ≡ (is_named plain.pends.items u || pending_here old.numbers u)
+  still_pending : (u : ℕ) → pending_here new.numbers u ≡ (is_in_update plain.pends.items u || pending_here old.numbers u)
   still_pending u =
       ap (λ (l : LocalView). flag_there new.numbers.tasks.pending (place_at l u)) local ∙ ap (λ (t : TasksView). flag_there t.pending (place_at old.numbers.local u)) tasks
-      ∙ sym (ap (λ (vs : List Vertex). is_named vs u || pending_here old.numbers u) none)
+      ∙ sym (ap (λ (vs : List Vertex). is_in_update vs u || pending_here old.numbers u) none)
 
   abbrev mixed : Core
   mixed = record old { numbers = new.numbers; locks = new.locks }
@@ -86,14 +86,14 @@ most_grows n j k less most v own = let low = most v own in omega arith
 -- the three steps together
 pub learned_is : (old begun heard new : Core) (w now : SnapView) (done plain : Done) → IsPlain done plain → SameSettings old begun → HasBegun old w begun now done.number
     → with_snaps now (part_of heard) ≡ learns plain.scope (news_of plain) (with_snaps now (part_of begun)) → HasOtherPending heard new
-    → ((u : ℕ) → pending_here new.numbers u ≡ (is_named done.pends.items u || pending_here heard.numbers u)) → HasLearnedNews old w new now done
+    → ((u : ℕ) → pending_here new.numbers u ≡ (is_in_update done.pends.items u || pending_here heard.numbers u)) → HasLearnedNews old w new now done
 learned_is old begun heard new w now done plain is settings began learned rest each st here =
     let a = old.numbers.local.me.0 in
     let before = began st here in
-    part_pended now heard new (λ u. is_named done.pends.items u || pending_here heard.numbers u) rest each
-    ∙ ap (λ (part : Part). record part { pending = λ u. is_named done.pends.items u || part.pending u }) (learned ∙ ap (learns plain.scope (news_of plain)) before)
+    part_pended now heard new (λ u. is_in_update done.pends.items u || pending_here heard.numbers u) rest each
+    ∙ ap (λ (part : Part). record part { pending = λ u. is_in_update done.pends.items u || part.pending u }) (learned ∙ ap (learns plain.scope (news_of plain)) before)
     ∙ (λ i.
     let begun_part = begins st a done.number (with_snaps w (part_of old)) in
-    let told = record (news_of done) { centre = (is.centre i).0; datum = is.datum i; edges = number_told (is.edges i).items; wakes = is_named (is.wakes i).items; pends = is_named (is.pends i); number = is.number i } in
+    let told = record (news_of done) { centre = (is.centre i).0; datum = is.datum i; edges = number_told (is.edges i).items; wakes = is_in_update (is.wakes i).items; pends = is_in_update (is.pends i); number = is.number i } in
     let learned_part = learns (is.scope i) told begun_part in
-    record learned_part { pending = λ u. is_named done.pends.items u || learned_part.pending u })
+    record learned_part { pending = λ u. is_in_update done.pends.items u || learned_part.pending u })

@@ -17,7 +17,7 @@ use Rattle.partition.specs.local_parts.Parts.{halves_along}
 use Rattle.partition.proofs.local_parts.FoundLemmas.{found_first}
 use Rattle.partition.proofs.local_parts.NearLemmas.{all_among, near_all}
 use Rattle.partition.specs.declared.machine_numbers.keeping.Numbers.{Numbers}
-use Rattle.partition.specs.machine_numbers.Views.{is_named}
+use Rattle.partition.specs.machine_numbers.Views.{is_in_update}
 use Rattle.partition.specs.machine_numbers.Settings.{IsRowOf}
 use Rattle.machine_core.specs.declared.machine_parts.cores.Core.{Core}
 use Rattle.machine_core.specs.machine_parts.Parts.{news_told}
@@ -61,7 +61,7 @@ abbrev is_theirs : Setting → Numbers → ℕ → ℕ → ℕ → Bool
 is_theirs st n k q u = st.owner u == q && is_unmarked n k u
 
 named_left : (st : Setting) (n : Numbers) (k q : ℕ) (sides : List Side) (u : ℕ) → All (λ (s : Side). s.owner.0 ≡ st.owner s.other.0) sides
-    → is_named (ends_left n k q sides) u ≡ (is_theirs st n k q u && list_any (λ (s : Side). s.other.0 == u) sides)
+    → is_in_update (ends_left n k q sides) u ≡ (is_theirs st n k q u && list_any (λ (s : Side). s.other.0 == u) sides)
 named_left st n k q [] u owners = sym (and_false (is_theirs st n k q u))
   where
     and_false : (b : Bool) → (b && false) ≡ false
@@ -76,7 +76,7 @@ named_left st n k q (s ∷ sides) u owners =
     ∙ ap (λ (b : Bool). (b && s.other.0 == u) || (is_theirs st n k q u && rest)) here
     ∙ both (is_theirs st n k q u) (is_theirs st n k q s.other.0) (s.other.0 == u) rest (λ same. ap (is_theirs st n k q) (eqb-true s.other.0 u same))
   where
-    one : (b : Bool) → is_named (if b then s.other ∷ ends_left n k q sides else ends_left n k q sides) u ≡ ((b && s.other.0 == u) || is_named (ends_left n k q sides) u)
+    one : (b : Bool) → is_in_update (if b then s.other ∷ ends_left n k q sides else ends_left n k q sides) u ≡ ((b && s.other.0 == u) || is_in_update (ends_left n k q sides) u)
     one true = refl
     one false = refl
 
@@ -117,7 +117,7 @@ module _ (st : Setting) (m : Core) (w : SnapView) (v : Vertex) (links : List Lin
   turned true false false = refl
   turned false b c = refl
 
-  pub pends_are : (q u : ℕ) → is_named (ends_left m.numbers w.known q sides) u ≡ pends_for st part v.0 q u
+  pub pends_are : (q u : ℕ) → is_in_update (ends_left m.numbers w.known q sides) u ≡ pends_for st part v.0 q u
   pends_are q u =
       named_left st m.numbers w.known q sides u (is.local.owners v.0 own)
       ∙ ap (λ (b : Bool). is_theirs st m.numbers w.known q u && b) (near_is u)
@@ -126,10 +126,10 @@ module _ (st : Setting) (m : Core) (w : SnapView) (v : Vertex) (links : List Lin
   number_is : (q : ℕ) → number_pended (ends_left m.numbers w.known q sides) w.known ≡ number_if (first_passing (pends_for st part v.0 q) 0 (size st.graph)) w.known
   number_is q = by (ends_left m.numbers w.known q sides) (pends_are q)
     where
-      by : (ends : List Vertex) → ((u : ℕ) → is_named ends u ≡ pends_for st part v.0 q u) → number_pended ends w.known ≡ number_if (first_passing (pends_for st part v.0 q) 0 (size st.graph)) w.known
+      by : (ends : List Vertex) → ((u : ℕ) → is_in_update ends u ≡ pends_for st part v.0 q u) → number_pended ends w.known ≡ number_if (first_passing (pends_for st part v.0 q) 0 (size st.graph)) w.known
       by [] are = sym (ap (λ (o : Option ℕ). number_if o w.known) (first_none (pends_for st part v.0 q) 0 (size st.graph) (λ u. sym (are u))))
       by (x ∷ ends) are =
-          let named : is_named (x ∷ ends) x.0 ≡ true = ap (λ (b : Bool). b || is_named ends x.0) (eq-eqb x.0 x.0 refl) in
+          let named : is_in_update (x ∷ ends) x.0 ≡ true = ap (λ (b : Bool). b || is_in_update ends x.0) (eq-eqb x.0 x.0 refl) in
           let pends : pends_for st part v.0 q x.0 ≡ true = sym (are x.0) ∙ named in
           let left = (and_parts (st.owner x.0 == q) (is_near st v.0 x.0 && is_unmarked m.numbers w.known x.0) pends).1 in
           let near = (and_parts (is_near st v.0 x.0) (is_unmarked m.numbers w.known x.0) left).0 in

@@ -8,7 +8,7 @@ use Rattle.local_graph.specs.declared.sides.Side.{Side}
 use Rattle.wire.specs.wire_msgs.Views as told
 use Rattle.wire.specs.outboxes.Outboxes.{OutboxesView}
 use Rattle.partition.specs.declared.machine_numbers.keeping.Numbers.{Numbers}
-use Rattle.partition.specs.machine_numbers.Views.{TasksView, flag_there, is_named}
+use Rattle.partition.specs.machine_numbers.Views.{TasksView, flag_there, is_in_update}
 use Rattle.machine_core.specs.declared.machine_updates.reserving.Prepared.{Prepared}
 use Rattle.machine_core.specs.machine_updates.Committing.{posted}
 use Rattle.machine_core.proofs.machine_updates.TellLemmas.{can_step}
@@ -68,13 +68,13 @@ ends_none n k q sides i past = ap (ends_left n k q) (drop_all i sides past)
 
 -- of the tasks the pending ones alone have changed, and the ends that are left are still to become so
 pub record IsPendingEnds (old now : Numbers) (k : ℕ) (all left : List Side) : Type 0 where
-  pub pending : IsPending old.local (is_named (ends_left old k old.local.me.0 all)) (is_named (ends_left old k old.local.me.0 left)) old.tasks now.tasks
+  pub pending : IsPending old.local (is_in_update (ends_left old k old.local.me.0 all)) (is_in_update (ends_left old k old.local.me.0 left)) old.tasks now.tasks
   pub rest : now ≡ record old { tasks = now.tasks }
 
-named_end : (n : Numbers) (k q : ℕ) (x : Side) (rest : List Side) (u : ℕ) → is_named (ends_left n k q (x ∷ rest)) u ≡ ((is_end_left n k q x && x.other.0 == u) || is_named (ends_left n k q rest) u)
+named_end : (n : Numbers) (k q : ℕ) (x : Side) (rest : List Side) (u : ℕ) → is_in_update (ends_left n k q (x ∷ rest)) u ≡ ((is_end_left n k q x && x.other.0 == u) || is_in_update (ends_left n k q rest) u)
 named_end n k q x rest u = by (is_end_left n k q x)
   where
-    by : (b : Bool) → is_named (if b then x.other ∷ ends_left n k q rest else ends_left n k q rest) u ≡ ((b && x.other.0 == u) || is_named (ends_left n k q rest) u)
+    by : (b : Bool) → is_in_update (if b then x.other ∷ ends_left n k q rest else ends_left n k q rest) u ≡ ((b && x.other.0 == u) || is_in_update (ends_left n k q rest) u)
     by true = refl
     by false = refl
 
@@ -88,11 +88,11 @@ pend_step old now new k i all d side inside is so_far each rest =
     rest ∙ ap (λ (n : Numbers). record n { tasks = record now.tasks { pending = new.tasks.pending; asked = new.tasks.asked } }) so_far.rest ∙ ap (λ (t : TasksView). record old { tasks = t }) (sym tasks) in
     record {
       pending =
-          pending_more old.local (is_named (ends_left old k q all)) (is_named (ends_left old k q (drop i all))) (is_named (ends_left old k q (drop (i + 1) all)))
+          pending_more old.local (is_in_update (ends_left old k q all)) (is_in_update (ends_left old k q (drop i all))) (is_in_update (ends_left old k q (drop (i + 1) all)))
           (λ u. is_end_left old k q side && side.other.0 == u) old.tasks now.tasks new.tasks so_far.pending
           (λ u.
-          ap (λ (ss : List Side). is_named (ends_left old k q ss) u) (drop_more all i d inside) ∙ named_end old k q (get_or all i d) (drop (i + 1) all) u
-          ∙ ap (λ (x : Side). (is_end_left old k q x && x.other.0 == u) || is_named (ends_left old k q (drop (i + 1) all)) u) (sym is))
+          ap (λ (ss : List Side). is_in_update (ends_left old k q ss) u) (drop_more all i d inside) ∙ named_end old k q (get_or all i d) (drop (i + 1) all) u
+          ∙ ap (λ (x : Side). (is_end_left old k q x && x.other.0 == u) || is_in_update (ends_left old k q (drop (i + 1) all)) u) (sym is))
           (λ u.
           ap (λ (n : Numbers). flag_there new.tasks.pending (place_at n.local u)) (sym whole) ∙ each u
           ∙ ap (λ (n : Numbers). (is_end_left n k n.local.me.0 side && side.other.0 == u) || flag_there now.tasks.pending (place_at n.local u)) so_far.rest)
@@ -101,11 +101,11 @@ pend_step old now new k i all d side inside is so_far each rest =
     }
 
 pub pend_all : (old now : Numbers) (k i : ℕ) (all : List Side) → length all ≤ i → IsPendingEnds old now k all (drop i all)
-    → (u : ℕ) → pending_here now u ≡ (is_named (ends_left old k old.local.me.0 all) u || pending_here old u)
+    → (u : ℕ) → pending_here now u ≡ (is_in_update (ends_left old k old.local.me.0 all) u || pending_here old u)
 pend_all old now k i all past so_far u =
     ap (λ (n : Numbers). flag_there now.tasks.pending (place_at n.local u)) so_far.rest
-    ∙ pending_all old.local (is_named (ends_left old k old.local.me.0 all)) (is_named (ends_left old k old.local.me.0 (drop i all))) old.tasks now.tasks so_far.pending
-    (λ x. ap (λ (ss : List Side). is_named (ends_left old k old.local.me.0 ss) x) (drop_all i all past)) u
+    ∙ pending_all old.local (is_in_update (ends_left old k old.local.me.0 all)) (is_in_update (ends_left old k old.local.me.0 (drop i all))) old.tasks now.tasks so_far.pending
+    (λ x. ap (λ (ss : List Side). is_in_update (ends_left old k old.local.me.0 ss) x) (drop_all i all past)) u
 
 pub pend_rest : (old now : Numbers) (k : ℕ) (all left : List Side) → IsPendingEnds old now k all left → now ≡ record old { tasks = record old.tasks { pending = now.tasks.pending; asked = now.tasks.asked } }
 pend_rest old now k all left so_far = so_far.rest ∙ ap (λ (t : TasksView). record old { tasks = t }) so_far.pending.rest

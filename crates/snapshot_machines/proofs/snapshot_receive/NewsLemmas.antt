@@ -8,7 +8,7 @@ use Rattle.cluster_laws.specs.cluster_core.Receiving.{MayLearn}
 use Rattle.cluster_laws.specs.cluster_core.Settings.{IsSetting}
 use Rattle.cluster_laws.proofs.cluster_core.Nearness.{near_within}
 use Rattle.wire.specs.declared.wire_msgs.messages.Done as wire
-use Rattle.partition.specs.machine_numbers.Views.{is_named}
+use Rattle.partition.specs.machine_numbers.Views.{is_in_update}
 use Rattle.machine_core.specs.declared.machine_parts.cores.Core.{Core}
 use Rattle.machine_core.specs.machine_parts.Parts.{is_own, part_of}
 use Rattle.machine_core.specs.machine_parts.Settings.{IsPartOf}
@@ -43,7 +43,7 @@ news_come st c p m w done comes =
       wakes = can.wakes;
       pends = λ k d low.
           let u = (get_or done.pends.items k d).0 in
-          let named : is_named done.pends.items u ≡ true = list_any_at (λ (v : Vertex). v.0 == u) done.pends.items k d low (eq-eqb u u refl) in
+          let named : is_in_update done.pends.items u ≡ true = list_any_at (λ (v : Vertex). v.0 == u) done.pends.items k d low (eq-eqb u u refl) in
           let near = word.concerns.pends u named in
           own_near st p m done comes.setting comes.part word u (near_within st comes.setting done.centre.0 u near.0).0 near.1;
     }

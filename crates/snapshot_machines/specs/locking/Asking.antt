@@ -4,7 +4,7 @@ use Rattle.cluster_laws.specs.cluster_model.Machines.{is_idle}
 use Rattle.coordinator.specs.snap_update.Snaps.{asked_behind, with_asking}
 use Rattle.wire.specs.wire_msgs.Views as wire
 use Rattle.snapshot_machines.specs.locking.Reports.{ReportsView, with_report}
-use Rattle.snapshot_machines.specs.locking.Savers.{IsPartOf, SaverView, Setting, part_of}
+use Rattle.snapshot_machines.specs.locking.Machines.{IsPartOf, LockingMachineView, Setting, part_of}
 
 -- where a snapshot is asked for, word of that waits
 abbrev pub with_wish : Option ℕ → ReportsView → ReportsView
@@ -12,7 +12,7 @@ with_wish None r = r
 with_wish (Some k) r = with_report (wire.Want k) r
 
 -- it asks where half of the window is outside, and it hasn't asked yet
-abbrev pub HasWanted : {P : Type 0} → SaverView P → SaverView P → Type 0
+abbrev pub HasWanted : {P : Type 0} → LockingMachineView P → LockingMachineView P → Type 0
 HasWanted old new =
     new ≡ record old {
       machine = record old.machine { kept = with_asking ((old.window + 1) / 2) old.machine.kept };
@@ -21,7 +21,7 @@ HasWanted old new =
 
 -- It has told its counts in answer to a wave: so many messages were put out, what it received and the updates of its log, and whether it is
 -- idle.
-pub record HasToldCounts {P : Type 0} (old new : SaverView P) (wave sent : ℕ) : Type 0 where
+pub record HasToldCounts {P : Type 0} (old new : LockingMachineView P) (wave sent : ℕ) : Type 0 where
   pub idle : Bool
   pub rests : (st : Setting) → IsPartOf st old.machine.core → idle ≡ is_idle st (part_of old.machine.core)
   pub after : new ≡ record old {

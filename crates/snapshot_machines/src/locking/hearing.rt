@@ -2,21 +2,21 @@
 ghost use Rattle.std.specs.Prelude.{◌≡◌, ◌<◌, length, IfErr, OnOk, OnErr};
 ghost use Rattle.coordinator.specs.machine_api.Promises.{HasHeard, StandsStill};
 ghost use Rattle.snapshot_machines.specs.locking.Asking.{HasToldCounts};
-ghost use Rattle.snapshot_machines.specs.locking.Savers.{IsSaverOf};
+ghost use Rattle.snapshot_machines.specs.locking.Machines.{IsLockingMachineOf};
 
-use crate::locking::savers::Saver;
+use crate::locking::machines::LockingMachine;
 use gl_base::Entry;
 use update_api::Program;
 use wire::wire_msgs::{Message, Returned};
 
-impl<P: Program> Saver<P> {
+impl<P: Program> LockingMachine<P> {
     /// Receives a message from the coordinator: that a snapshot begins or is acknowledged, or a
     /// wave, which it answers at once. For want of memory the message comes back, and so does what
     /// the coordinator doesn't tell.
     pub(crate) fn hear_call(&mut self, message: Message) -> Result<(), Returned>
-        ensures heard { OnOk result (HasHeard (IsSaverOf P.meaning) self.old message self.new) }
+        ensures heard { OnOk result (HasHeard (IsLockingMachineOf P.meaning) self.old message self.new) }
         ensures returned { IfErr result (λ back. back.message ≡ message) }
-        ensures unchanged { OnErr result (StandsStill (IsSaverOf P.meaning) self.old self.new) }
+        ensures unchanged { OnErr result (StandsStill (IsLockingMachineOf P.meaning) self.old self.new) }
     {
         match message {
             Message::Begin { number } => {
@@ -33,9 +33,9 @@ impl<P: Program> Saver<P> {
     /// is asked for the next one.
     fn hear_committed(&mut self, number: u32) -> Result<(), Returned>
         ensures heard { OnOk result
-            (HasHeard (IsSaverOf P.meaning) self.old (Message.Committed number) self.new) }
+            (HasHeard (IsLockingMachineOf P.meaning) self.old (Message.Committed number) self.new) }
         ensures returned { IfErr result (λ back. back.message ≡ Message.Committed number) }
-        ensures unchanged { OnErr result (StandsStill (IsSaverOf P.meaning) self.old self.new) }
+        ensures unchanged { OnErr result (StandsStill (IsLockingMachineOf P.meaning) self.old self.new) }
     {
         if self.reports.reserve().is_err() {
             return Err(Returned {
@@ -50,9 +50,9 @@ impl<P: Program> Saver<P> {
     /// The coordinator asks for the counts of this wave. A count that has ended is want of memory.
     fn hear_wave(&mut self, wave: u64) -> Result<(), Returned>
         ensures heard { OnOk result
-            (HasHeard (IsSaverOf P.meaning) self.old (Message.Wave wave) self.new) }
+            (HasHeard (IsLockingMachineOf P.meaning) self.old (Message.Wave wave) self.new) }
         ensures returned { IfErr result (λ back. back.message ≡ Message.Wave wave) }
-        ensures unchanged { OnErr result (StandsStill (IsSaverOf P.meaning) self.old self.new) }
+        ensures unchanged { OnErr result (StandsStill (IsLockingMachineOf P.meaning) self.old self.new) }
     {
         if self.reports.reserve().is_err() {
             return Err(Returned {
@@ -77,7 +77,7 @@ impl<P: Program> Saver<P> {
     {
         let updates = count(&self.machine.core().numbers.log);
         let idle = self.machine.is_idle();
-        self.counts.hold(wave);
+        self.counts.begin_answer(wave);
         if let Some(answer) = self.counts.answer(true, sent, updates, idle) {
             self.reports.put(Message::Count {
                 wave: answer.wave,

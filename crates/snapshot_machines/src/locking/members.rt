@@ -1,14 +1,14 @@
 //! The machine as a member of a cluster that takes snapshots.
-use crate::locking::savers::Saver;
+use crate::locking::machines::LockingMachine;
 use coordinator::machine_api::SavingMachine;
 use gl_base::{Entry, MachineNo, Refused, ScopeId, Vertex};
 use update_api::Program;
 use wire::wire_msgs::{Message, Returned};
 
-impl<P: Program> SavingMachine for Saver<P> {
-    ghost use Rattle.snapshot_machines.specs.locking.Savers.{IsSaverOf};
+impl<P: Program> SavingMachine for LockingMachine<P> {
+    ghost use Rattle.snapshot_machines.specs.locking.Machines.{IsLockingMachineOf};
 
-    ghost stands = { IsSaverOf P.meaning };
+    ghost represents = { IsLockingMachineOf P.meaning };
 
     fn admit(&mut self) -> Result<(), Refused> {
         self.admit_one()

@@ -1,14 +1,14 @@
 //! What comes from other machines.
 ghost use Rattle.std.specs.Prelude.{◌≡◌, IfErr, OnOk, OnErr};
 ghost use Rattle.coordinator.specs.machine_api.Promises.{HasReceived, MayReceiveFirst, StandsStill};
-ghost use Rattle.snapshot_machines.specs.locking.Savers.{IsSaverOf};
+ghost use Rattle.snapshot_machines.specs.locking.Machines.{IsLockingMachineOf};
 
-use crate::locking::savers::Saver;
+use crate::locking::machines::LockingMachine;
 use gl_base::{MachineNo, ScopeId, Vertex};
 use update_api::Program;
 use wire::wire_msgs::{Done, Message, Returned};
 
-impl<P: Program> Saver<P> {
+impl<P: Program> LockingMachine<P> {
     /// Receives a message from another machine: the first on the link in some cluster in which this
     /// one stands. For want of memory the message comes back, and so does what machines don't tell
     /// each other.
@@ -17,11 +17,11 @@ impl<P: Program> Saver<P> {
         from: MachineNo,
         message: Message,
     ) -> Result<(), Returned>
-        requires { MayReceiveFirst (IsSaverOf P.meaning) self.old from.0 message }
+        requires { MayReceiveFirst (IsLockingMachineOf P.meaning) self.old from.0 message }
         ensures received { OnOk result
-            (HasReceived (IsSaverOf P.meaning) self.old from.0 message self.new) }
+            (HasReceived (IsLockingMachineOf P.meaning) self.old from.0 message self.new) }
         ensures returned { IfErr result (λ back. back.message ≡ message) }
-        ensures unchanged { OnErr result (StandsStill (IsSaverOf P.meaning) self.old self.new) }
+        ensures unchanged { OnErr result (StandsStill (IsLockingMachineOf P.meaning) self.old self.new) }
     {
         match message {
             Message::Ask {
@@ -49,13 +49,13 @@ impl<P: Program> Saver<P> {
         centre: Vertex,
         rest: Vec<MachineNo>,
     ) -> Result<(), Returned>
-        requires { MayReceiveFirst (IsSaverOf P.meaning) self.old from.0
+        requires { MayReceiveFirst (IsLockingMachineOf P.meaning) self.old from.0
             (Message.Ask scope centre rest) }
         ensures received { OnOk result
-            (HasReceived (IsSaverOf P.meaning) self.old from.0
+            (HasReceived (IsLockingMachineOf P.meaning) self.old from.0
             (Message.Ask scope centre rest) self.new) }
         ensures returned { IfErr result (λ back. back.message ≡ Message.Ask scope centre rest) }
-        ensures unchanged { OnErr result (StandsStill (IsSaverOf P.meaning) self.old self.new) }
+        ensures unchanged { OnErr result (StandsStill (IsLockingMachineOf P.meaning) self.old self.new) }
     {
         let _core = self.machine.core();
         match self.machine.receive_ask(scope, centre, rest) {
@@ -75,8 +75,8 @@ impl<P: Program> Saver<P> {
 
     /// A scope of this home has all its locks. It takes no memory.
     fn receive_ready(&mut self, from: MachineNo, scope: ScopeId)
-        requires { MayReceiveFirst (IsSaverOf P.meaning) self.old from.0 (Message.Ready scope) }
-        ensures { HasReceived (IsSaverOf P.meaning) self.old from.0 (Message.Ready scope) self.new }
+        requires { MayReceiveFirst (IsLockingMachineOf P.meaning) self.old from.0 (Message.Ready scope) }
+        ensures { HasReceived (IsLockingMachineOf P.meaning) self.old from.0 (Message.Ready scope) self.new }
     {
         let _core = self.machine.core();
         self.machine.receive_ready(scope);
@@ -85,8 +85,8 @@ impl<P: Program> Saver<P> {
 
     /// Word of an update elsewhere has come, be it a snapshot update or not. It takes no memory.
     fn receive_done(&mut self, from: MachineNo, done: Done)
-        requires { MayReceiveFirst (IsSaverOf P.meaning) self.old from.0 (Message.Done done) }
-        ensures { HasReceived (IsSaverOf P.meaning) self.old from.0 (Message.Done done) self.new }
+        requires { MayReceiveFirst (IsLockingMachineOf P.meaning) self.old from.0 (Message.Done done) }
+        ensures { HasReceived (IsLockingMachineOf P.meaning) self.old from.0 (Message.Done done) self.new }
     {
         let _core = self.machine.core();
         self.machine.learn(done);

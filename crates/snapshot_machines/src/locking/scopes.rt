@@ -1,22 +1,22 @@
 //! How scopes are admitted and go on.
 ghost use Rattle.std.specs.Prelude.{◌≡◌, IfNone, IfSome, OnOk, OnErr, IsErrOf};
 ghost use Rattle.coordinator.specs.machine_api.Promises.{Grant, CanAdmit, CanDo, CanGrantNone, CanNotAdmit, CanNotDo, HasAdmittedSome, HasDone, StandsStill};
-ghost use Rattle.snapshot_machines.specs.locking.Savers.{IsSaverOf};
+ghost use Rattle.snapshot_machines.specs.locking.Machines.{IsLockingMachineOf};
 
-use crate::locking::savers::Saver;
+use crate::locking::machines::LockingMachine;
 use gl_base::{Refused, Vertex};
 use update_api::Program;
 
-impl<P: Program> Saver<P> {
+impl<P: Program> LockingMachine<P> {
     /// A scope of a vertex that is pending, or that is a task where the window has room, sets out
     /// for its locks.
     pub(crate) fn admit_one(&mut self) -> Result<(), Refused>
-        ensures admitted { OnOk result (HasAdmittedSome (IsSaverOf P.meaning) self.old self.new) }
+        ensures admitted { OnOk result (HasAdmittedSome (IsLockingMachineOf P.meaning) self.old self.new) }
         ensures not_now { IsErrOf result Refused.NotNow →
-            CanNotAdmit (IsSaverOf P.meaning) self.old }
+            CanNotAdmit (IsLockingMachineOf P.meaning) self.old }
         ensures no_memory { IsErrOf result Refused.NoMemory →
-            CanAdmit (IsSaverOf P.meaning) self.old }
-        ensures unchanged { OnErr result (StandsStill (IsSaverOf P.meaning) self.old self.new) }
+            CanAdmit (IsLockingMachineOf P.meaning) self.old }
+        ensures unchanged { OnErr result (StandsStill (IsLockingMachineOf P.meaning) self.old self.new) }
     {
         let _plans = self.machine.core().numbers.tasks.plans();
         if let Err(refused) = self.machine.admit() {
@@ -28,12 +28,12 @@ impl<P: Program> Saver<P> {
     /// The first that waits for the lock of an own vertex holds it, and goes on.
     pub(crate) fn grant_first(&mut self, x: Vertex) -> Result<(), Refused>
         ensures granted { OnOk result
-            (HasDone (IsSaverOf P.meaning) self.old (Grant x.0) self.new) }
+            (HasDone (IsLockingMachineOf P.meaning) self.old (Grant x.0) self.new) }
         ensures not_now { IsErrOf result Refused.NotNow →
-            CanNotDo (IsSaverOf P.meaning) self.old (Grant x.0) }
+            CanNotDo (IsLockingMachineOf P.meaning) self.old (Grant x.0) }
         ensures no_memory { IsErrOf result Refused.NoMemory →
-            CanDo (IsSaverOf P.meaning) self.old (Grant x.0) }
-        ensures unchanged { OnErr result (StandsStill (IsSaverOf P.meaning) self.old self.new) }
+            CanDo (IsLockingMachineOf P.meaning) self.old (Grant x.0) }
+        ensures unchanged { OnErr result (StandsStill (IsLockingMachineOf P.meaning) self.old self.new) }
     {
         if let Err(refused) = self.machine.grant(x) {
             return Err(refused);
@@ -43,9 +43,9 @@ impl<P: Program> Saver<P> {
 
     /// An own vertex whose lock may be granted now; `None` exactly where no lock may be.
     pub(crate) fn next_lock(&mut self) -> Option<Vertex>
-        ensures some { IfSome result (λ x. CanDo (IsSaverOf P.meaning) self.old (Grant x.0)) }
-        ensures none { IfNone result (CanGrantNone (IsSaverOf P.meaning) self.old) }
-        ensures unchanged { StandsStill (IsSaverOf P.meaning) self.old self.new }
+        ensures some { IfSome result (λ x. CanDo (IsLockingMachineOf P.meaning) self.old (Grant x.0)) }
+        ensures none { IfNone result (CanGrantNone (IsLockingMachineOf P.meaning) self.old) }
+        ensures unchanged { StandsStill (IsLockingMachineOf P.meaning) self.old self.new }
     {
         self.machine.next_grant()
     }

@@ -1,23 +1,23 @@
 //! Snapshot updates and sections.
 ghost use Rattle.std.specs.Prelude.{◌≡◌, ◌↔◌, IfNone, IfSome, IsTrue, OnOk, OnErr, IsErrOf};
 ghost use Rattle.coordinator.specs.machine_api.Promises.{Mark, MayBeDone, OfEach, Section, CanDo, CanMarkNone, CanNotDo, HasDone, StandsStill};
-ghost use Rattle.snapshot_machines.specs.locking.Savers.{IsSaverOf};
+ghost use Rattle.snapshot_machines.specs.locking.Machines.{IsLockingMachineOf};
 
-use crate::locking::savers::Saver;
+use crate::locking::machines::LockingMachine;
 use gl_base::{Refused, ScopeId};
 use update_api::Program;
 use wire::wire_msgs::Message;
 
-impl<P: Program> Saver<P> {
+impl<P: Program> LockingMachine<P> {
     /// Makes the snapshot update of a ready scope of this home, whose vertex is pending.
     pub(crate) fn mark_one(&mut self, scope: ScopeId) -> Result<(), Refused>
         ensures marked { OnOk result
-            (HasDone (IsSaverOf P.meaning) self.old (Mark scope) self.new) }
+            (HasDone (IsLockingMachineOf P.meaning) self.old (Mark scope) self.new) }
         ensures not_now { IsErrOf result Refused.NotNow →
-            CanNotDo (IsSaverOf P.meaning) self.old (Mark scope) }
+            CanNotDo (IsLockingMachineOf P.meaning) self.old (Mark scope) }
         ensures no_memory { IsErrOf result Refused.NoMemory →
-            CanDo (IsSaverOf P.meaning) self.old (Mark scope) }
-        ensures unchanged { OnErr result (StandsStill (IsSaverOf P.meaning) self.old self.new) }
+            CanDo (IsLockingMachineOf P.meaning) self.old (Mark scope) }
+        ensures unchanged { OnErr result (StandsStill (IsLockingMachineOf P.meaning) self.old self.new) }
     {
         let _core = self.machine.core();
         self.machine.mark(scope)
@@ -26,8 +26,8 @@ impl<P: Program> Saver<P> {
     /// A ready scope of this home whose snapshot update may be made now; `None` exactly where there
     /// is none.
     pub(crate) fn next_mark_here(&self) -> Option<ScopeId>
-        ensures some { IfSome result (λ s. CanDo (IsSaverOf P.meaning) self.now (Mark s)) }
-        ensures none { IfNone result (CanMarkNone (IsSaverOf P.meaning) self.now) }
+        ensures some { IfSome result (λ s. CanDo (IsLockingMachineOf P.meaning) self.now (Mark s)) }
+        ensures none { IfNone result (CanMarkNone (IsLockingMachineOf P.meaning) self.now) }
     {
         self.machine.next_mark()
     }
@@ -35,12 +35,12 @@ impl<P: Program> Saver<P> {
     /// Puts out the section of the snapshot that the machine knows, all of whose vertices have the
     /// mark.
     pub(crate) fn put_section(&mut self) -> Result<(), Refused>
-        ensures sent { OnOk result (HasDone (IsSaverOf P.meaning) self.old Section self.new) }
+        ensures sent { OnOk result (HasDone (IsLockingMachineOf P.meaning) self.old Section self.new) }
         ensures not_now { IsErrOf result Refused.NotNow →
-            CanNotDo (IsSaverOf P.meaning) self.old Section }
+            CanNotDo (IsLockingMachineOf P.meaning) self.old Section }
         ensures no_memory { IsErrOf result Refused.NoMemory →
-            CanDo (IsSaverOf P.meaning) self.old Section }
-        ensures unchanged { OnErr result (StandsStill (IsSaverOf P.meaning) self.old self.new) }
+            CanDo (IsLockingMachineOf P.meaning) self.old Section }
+        ensures unchanged { OnErr result (StandsStill (IsLockingMachineOf P.meaning) self.old self.new) }
     {
         if !self.machine.has_section() {
             return Err(Refused::NotNow);
@@ -59,9 +59,9 @@ impl<P: Program> Saver<P> {
 
     /// Whether the section may be put out now.
     pub(crate) fn may_put_section(&mut self) -> bool
-        ensures section { OfEach (IsSaverOf P.meaning) self.old (λ st a m. IsTrue result ↔
+        ensures section { OfEach (IsLockingMachineOf P.meaning) self.old (λ st a m. IsTrue result ↔
             MayBeDone st a m Section) }
-        ensures unchanged { StandsStill (IsSaverOf P.meaning) self.old self.new }
+        ensures unchanged { StandsStill (IsLockingMachineOf P.meaning) self.old self.new }
     {
         self.machine.has_section()
     }

@@ -3,25 +3,25 @@ ghost use Rattle.std.specs.Prelude.{◌≡◌, ◌<◌, IfNone, IfOk, IfSome, On
 ghost use Rattle.coordinator.specs.machine_api.AtOnce.{CanNotUpdateAtOnce, CanUpdateAtOnce, HasUpdatedAtOnce};
 ghost use Rattle.coordinator.specs.machine_api.Promises.{Update, CanDo, CanNotDo, CanUpdate, CanUpdateNone, HasDone, StandsStill};
 ghost use Rattle.snapshot_machines.specs.locking.Asking.{HasWanted};
-ghost use Rattle.snapshot_machines.specs.locking.Savers.{IsSaverOf};
+ghost use Rattle.snapshot_machines.specs.locking.Machines.{IsLockingMachineOf};
 
-use crate::locking::savers::Saver;
+use crate::locking::machines::LockingMachine;
 use gl_base::{Refused, ScopeId, Vertex};
 use update_api::Program;
 use wire::wire_msgs::Message;
 
-impl<P: Program> Saver<P> {
+impl<P: Program> LockingMachine<P> {
     /// Makes the update of a ready scope of this home, whose vertex is a task and not pending; and
     /// where half of the window is outside the last snapshot, the coordinator is asked for the next
     /// one.
     pub(crate) fn update_one(&mut self, scope: ScopeId, ticket: u64) -> Result<(), Refused>
         ensures updated { OnOk result
-            (HasDone (IsSaverOf P.meaning) self.old (Update scope ticket) self.new) }
+            (HasDone (IsLockingMachineOf P.meaning) self.old (Update scope ticket) self.new) }
         ensures not_now { IsErrOf result Refused.NotNow →
-            CanNotDo (IsSaverOf P.meaning) self.old (Update scope ticket) }
+            CanNotDo (IsLockingMachineOf P.meaning) self.old (Update scope ticket) }
         ensures no_memory { IsErrOf result Refused.NoMemory →
-            CanDo (IsSaverOf P.meaning) self.old (Update scope ticket) }
-        ensures unchanged { OnErr result (StandsStill (IsSaverOf P.meaning) self.old self.new) }
+            CanDo (IsLockingMachineOf P.meaning) self.old (Update scope ticket) }
+        ensures unchanged { OnErr result (StandsStill (IsLockingMachineOf P.meaning) self.old self.new) }
     {
         let _core = self.machine.core();
         if !self.machine.can_update(scope) {
@@ -44,12 +44,12 @@ impl<P: Program> Saver<P> {
     /// is outside the last snapshot, the coordinator is asked for the next one.
     pub(crate) fn update_pick(&mut self, ticket: u64) -> Result<Vertex, Refused>
         ensures updated { IfOk result (λ v.
-            HasUpdatedAtOnce (IsSaverOf P.meaning) self.old v.0 ticket self.new) }
+            HasUpdatedAtOnce (IsLockingMachineOf P.meaning) self.old v.0 ticket self.new) }
         ensures not_now { IsErrOf result Refused.NotNow →
-            CanNotUpdateAtOnce (IsSaverOf P.meaning) self.old }
+            CanNotUpdateAtOnce (IsLockingMachineOf P.meaning) self.old }
         ensures no_memory { IsErrOf result Refused.NoMemory →
-            CanUpdateAtOnce (IsSaverOf P.meaning) self.old }
-        ensures unchanged { OnErr result (StandsStill (IsSaverOf P.meaning) self.old self.new) }
+            CanUpdateAtOnce (IsLockingMachineOf P.meaning) self.old }
+        ensures unchanged { OnErr result (StandsStill (IsLockingMachineOf P.meaning) self.old self.new) }
     {
         let _core = self.machine.core();
         if self.reports.reserve().is_err() {
@@ -66,8 +66,8 @@ impl<P: Program> Saver<P> {
 
     /// A ready scope of this home whose update may be made now; `None` exactly where there is none.
     pub(crate) fn next_update_here(&self) -> Option<ScopeId>
-        ensures some { IfSome result (CanUpdate (IsSaverOf P.meaning) self.now) }
-        ensures none { IfNone result (CanUpdateNone (IsSaverOf P.meaning) self.now) }
+        ensures some { IfSome result (CanUpdate (IsLockingMachineOf P.meaning) self.now) }
+        ensures none { IfNone result (CanUpdateNone (IsLockingMachineOf P.meaning) self.now) }
     {
         self.machine.next_update()
     }

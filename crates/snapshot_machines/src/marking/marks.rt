@@ -2,7 +2,7 @@
 ghost use Rattle.std.specs.Prelude.{◌≡◌, ℕ, ◌<◌, ◌==◌, ◌&&◌, ◌||◌, not, true, false, Some, length, slice_get, slice_set};
 ghost use Rattle.std.specs.List.{All};
 ghost use Rattle.partition.specs.machine_numbers.Steps.{IsSideHere};
-ghost use Rattle.partition.specs.machine_numbers.Views.{flag_there, is_flagged, is_named};
+ghost use Rattle.partition.specs.machine_numbers.Views.{flag_there, is_flagged, is_in_update};
 ghost use Rattle.snapshot_machines.specs.marking.Inner.Marks.{AreTasksOf, CanMarkNumber, HasMarkedNumber, HasUnplanned, ends_left, is_end_left, is_own, pending_here, place_at, sides_at};
 
 use crate::marking::pending::pend_place;
@@ -77,7 +77,7 @@ fn pend_ends(numbers: &mut Numbers, v: Vertex, known: u32)
     requires tasks { AreTasksOf numbers.old.local numbers.old.tasks }
     ensures each { (u : ℕ) →
         pending_here numbers.new u ≡
-        (is_named (ends_left numbers.old known numbers.old.local.me.0
+        (is_in_update (ends_left numbers.old known numbers.old.local.me.0
         (sides_at numbers.old.local v.0)) u || pending_here numbers.old u) }
     ensures rest { numbers.new ≡
         record numbers.old {

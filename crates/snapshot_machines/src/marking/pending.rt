@@ -1,7 +1,7 @@
 //! Vertices that become pending.
 ghost use Rattle.std.specs.Prelude.{◌≡◌, ℕ, ◌<◌, ◌==◌, ◌||◌, true, length, slice_set};
 ghost use Rattle.std.specs.List.{All};
-ghost use Rattle.partition.specs.machine_numbers.Views.{AreTasksOf, is_own, place_at, flag_there, is_named, is_flagged};
+ghost use Rattle.partition.specs.machine_numbers.Views.{AreTasksOf, is_own, place_at, flag_there, is_in_update, is_flagged};
 
 use gl_base::Vertex;
 use local_graph::LocalGraph;
@@ -13,7 +13,7 @@ pub fn pend_named(tasks: &mut TaskSet, local: &LocalGraph, vertices: &[Vertex])
     requires tasks { AreTasksOf local.now tasks.old }
     ensures each { (u : ℕ) →
         flag_there tasks.new.pending (place_at local.now u) ≡
-        (is_named vertices.now u || flag_there tasks.old.pending (place_at local.now u)) }
+        (is_in_update vertices.now u || flag_there tasks.old.pending (place_at local.now u)) }
     ensures rest { tasks.new ≡ record tasks.old {
       pending = tasks.new.pending;
       asked = tasks.new.asked;

@@ -91,7 +91,7 @@ impl WaveCounts {
     }
 
     /// The coordinator asks for the counts of this wave.
-    pub fn hold(&mut self, wave: u64)
+    pub fn begin_answer(&mut self, wave: u64)
         ensures { self.new ≡ record self.old { held = Some wave } }
     {
         self.held = Some(wave);

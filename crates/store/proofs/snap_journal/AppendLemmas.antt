@@ -9,7 +9,7 @@ use Rattle.gl_outside.proofs.Disks.{started, goes_on, stands_still}
 use Rattle.store.specs.declared.store_format.header.Header.{Header}
 use Rattle.store.specs.store_format.Bodies.{IsBody}
 use Rattle.store.specs.store_format.Records.{stored_bytes}
-use Rattle.store.specs.store_format.Stores.{StandsFor, stored_in, records_size, IsBeforeOrAfter}
+use Rattle.store.specs.store_format.Stores.{DecodesTo, stored_in, records_size, IsBeforeOrAfter}
 use Rattle.store.proofs.store_format.ReadLemmas.{IsStored}
 use Rattle.store.proofs.store_format.StoreLemmas.{IsBase, based, stands_closed, stands_open, stands_of, stored_are, ok_from, with_length, stored_bytes-split, length-stored_bytes, stored_body}
 use Rattle.store.specs.snap_journal.Inner.Found.{IsFound}
@@ -97,11 +97,11 @@ module _ (header : Header) (count place : ℕ) (start : DiskPast) (body piece : 
   kept_closed : (gate : ℕ) (more : List ℕ) → gate ≢ 1 → Kept (is.base ++ gate ∷ more)
   kept_closed gate more closed = inl (stands_closed header bodies is.base gate more is.is_base closed)
 
-  stands_after : (more : List ℕ) → StandsFor header (bodies ++ body ∷ []) (is.base ++ 1 ∷ (piece ++ more))
+  stands_after : (more : List ℕ) → DecodesTo header (bodies ++ body ∷ []) (is.base ++ 1 ∷ (piece ++ more))
   stands_after more =
       let open_one = stands_open header bodies is.base (with_length body) 0 more is.is_base is.whole (not_open 0 refl) in
       let same : with_length body ++ 0 ∷ more ≡ piece ++ more = sym (append_assoc (with_length body) (0 ∷ []) more) ∙ ap (λ (l : List ℕ). l ++ more) (sym is.piece_is) in
-      subst (λ (l : List ℕ). StandsFor header (bodies ++ body ∷ []) (is.base ++ 1 ∷ l)) same open_one
+      subst (λ (l : List ℕ). DecodesTo header (bodies ++ body ∷ []) (is.base ++ 1 ∷ l)) same open_one
 
   kept_gate : (gate : ℕ) (more : List ℕ) → Kept (is.base ++ gate ∷ (piece ++ more))
   kept_gate gate more = elim (cases_eq gate 1) [
@@ -195,7 +195,7 @@ module _ (header : Header) (count place : ℕ) (start : DiskPast) (body piece : 
   pub record IsAdded (mid : DiskPast) : Type 0 where
     pub leaves : LeavesOnly start mid Kept
     pub snapshots : stored_in header mid.now.seen ≡ bodies ++ body ∷ []
-    pub durable : (image : List ℕ) → IsImage mid.now image → StandsFor header (bodies ++ body ∷ []) image
+    pub durable : (image : List ℕ) → IsImage mid.now image → DecodesTo header (bodies ++ body ∷ []) image
     pub settled : IsSettled header (count + 1) (place + length piece) mid
 
   pub added : (mid next : DiskPast) → IsOpened mid → next ≡ followed_by mid (after_sync mid.now) → IsAdded next
@@ -203,14 +203,14 @@ module _ (header : Header) (count place : ℕ) (start : DiskPast) (body piece : 
       let stands = stands_after (drop (length piece) is.more) in
       let rests = after_sync_rests mid.now opened was.seen in
       let now : IsAtRest next.now opened = subst (λ (p : DiskPast). IsAtRest p.now opened) (sym is_next) rests in
-      let here : StandsFor header (bodies ++ body ∷ []) next.now.seen = subst (StandsFor header (bodies ++ body ∷ [])) (sym now.seen) stands in
+      let here : DecodesTo header (bodies ++ body ∷ []) next.now.seen = subst (DecodesTo header (bodies ++ body ∷ [])) (sym now.seen) stands in
       let stored : stored_in header next.now.seen ≡ bodies ++ body ∷ [] = stored_are header next.now.seen (bodies ++ body ∷ []) here in
       let size = is.is_base.size in
       let more : records_size (bodies ++ body ∷ []) ≡ records_size bodies + (9 + length body) = one_more bodies body in
       record {
         leaves = goes_on start mid next (after_sync mid.now) Kept was.leaves is_next (λ image left. subst Kept (sym (rest_leaves (after_sync mid.now) opened image rests left)) (inr stands));
         snapshots = stored;
-        durable = λ image left. subst (StandsFor header (bodies ++ body ∷ [])) (sym (rest_leaves next.now opened image now left)) stands;
+        durable = λ image left. subst (DecodesTo header (bodies ++ body ∷ [])) (sym (rest_leaves next.now opened image now left)) stands;
         settled = record {
           reads = ok_from header next.now.seen (bodies ++ body ∷ []) here;
           counts = omega (arith, is.count_is, ap (length {A = List ℕ}) stored, length-append bodies (body ∷ []));
@@ -229,10 +229,10 @@ module _ (header : Header) (count place : ℕ) (start : DiskPast) (body piece : 
           omega arith
 
 -- a journal at rest stands for its snapshots whatever a crash leaves
-pub settled_leaves : (header : Header) (count place : ℕ) (start : DiskPast) → IsSettled header count place start → (image : List ℕ) → IsImage start.now image → StandsFor header (stored_in header start.now.seen) image
+pub settled_leaves : (header : Header) (count place : ℕ) (start : DiskPast) → IsSettled header count place start → (image : List ℕ) → IsImage start.now image → DecodesTo header (stored_in header start.now.seen) image
 settled_leaves header count place start settled image left =
     let rests : IsAtRest start.now start.now.seen = record { seen = refl; synced = settled.synced; quiet = settled.quiet } in
-    subst (StandsFor header (stored_in header start.now.seen)) (sym (rest_leaves start.now start.now.seen image rests left)) (stands_of header start.now.seen settled.reads)
+    subst (DecodesTo header (stored_in header start.now.seen)) (sym (rest_leaves start.now start.now.seen image rests left)) (stands_of header start.now.seen settled.reads)
 
 -- a count that rose later rose
 pub rose_after : (before mid now : ℕ) → before ≤ mid → Rose mid now → Rose before now

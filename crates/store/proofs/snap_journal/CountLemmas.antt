@@ -9,7 +9,7 @@ use Rattle.store.specs.store_format.Bodies.{body_size, entry_count}
 use Rattle.store.specs.store_format.Records.{bodies_from, body_in, length_in, stored_fault, unless_bad, with_body}
 use Rattle.store.specs.declared.store_format.faults.StoreFault.{StoreFault}
 use Rattle.store.specs.store_format.StoredOrders.{body_entries, entries_from, entry_rank, order_behind, put_in_order, stored_order, with_entries}
-use Rattle.store.specs.store_format.Stores.{StandsFor, records_size}
+use Rattle.store.specs.store_format.Stores.{DecodesTo, records_size}
 use Rattle.store.specs.store_format.Headers.{store_header_fault}
 use Rattle.store.proofs.store_format.NewLemmas.{field-behind}
 use Rattle.store.proofs.store_format.ReadLemmas.{IsSplit, IsStored, bodies_from-closed, bodies_from-record, split_record, with_body-inv}
@@ -130,7 +130,7 @@ sixteenth : (gate size apart n : ℕ) → gate ≡ 64 + size → size ≡ apart 
 sixteenth gate size apart n is so = omega arith
 
 -- a store with its gate there has so many entries
-pub entries_by_length : (header : Header) (bodies : List (List ℕ)) (bytes : List ℕ) (count gate : ℕ) → StandsFor header bodies bytes → count ≡ length bodies → gate ≡ 64 + records_size bodies →
+pub entries_by_length : (header : Header) (bodies : List (List ℕ)) (bytes : List ℕ) (count gate : ℕ) → DecodesTo header bodies bytes → count ≡ length bodies → gate ≡ 64 + records_size bodies →
     (gate - (64 + count * (9 + body_size header 0))) / 16 ≡ length (stored_order bodies)
 entries_by_length header bodies bytes count gate stands counts place =
     let read = refused_not (store_header_fault header (take 64 bytes)) (bodies_from header 1 64 0 (drop 64 bytes)) bodies stands in

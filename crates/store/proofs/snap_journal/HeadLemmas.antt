@@ -10,7 +10,7 @@ use Rattle.store.specs.store_format.Records.{bodies_from, with_body}
 use Rattle.store.proofs.store_format.NewLemmas.{field-take, field-behind}
 use Rattle.store.specs.declared.snap_journal.faults.JournalFault.{JournalFault}
 use Rattle.store.specs.declared.snap_journal.faults.JournalFault.TheVariants.{DiskFault, BadStore, Full, Failed, NoMemory}
-use Rattle.store.specs.snap_journal.Inner.Reads.{HasLength, IsWhyBad, IsWhyNot}
+use Rattle.store.specs.snap_journal.Inner.Reads.{HasLength, BodyErrorCause, NextBodyErrorCause}
 use Rattle.store.proofs.snap_journal.GateLemmas.{at_end, at_closed, at_torn_head, at_bad_length, at_torn_body, at_bad_body, at_record}
 
 -- as many bytes as there are, and at most 17, are the first 17
@@ -91,7 +91,7 @@ module _ (header : Header) (number at : ℕ) (seen body : List ℕ) (size : ℕ)
 -- where these bytes are no body the store is not read on
 pub why_not_body : {told : Type 0} (header : Header) (number at most before now : ℕ) (seen body : List ℕ) (fault : JournalFault)
     → (told → HasLength header (drop at seen) most) → (told → body ≡ take most (drop (at + 9) seen))
-    → IsWhyBad header number at most body fault → IsWhyNot told header number at seen before now fault
+    → BodyErrorCause header number at most body fault → NextBodyErrorCause told header number at seen before now fault
 why_not_body header number at most before now seen body DiskFault has is bad = absurd bad
 why_not_body header number at most before now seen body (BadStore fault) has is bad = λ told. bad seen (has told) (is told)
 why_not_body header number at most before now seen body (Full stored bytes) has is bad = bad

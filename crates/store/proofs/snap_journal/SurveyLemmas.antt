@@ -16,12 +16,12 @@ use Rattle.store.proofs.store_format.ReadLemmas.{prepend, prepend-Ok}
 use Rattle.store.proofs.store_format.StoreLemmas.{ok_from, stored_are}
 use Rattle.store.specs.declared.snap_journal.faults.JournalFault.{JournalFault}
 use Rattle.store.specs.declared.snap_journal.faults.JournalFault.TheVariants.{DiskFault, BadStore, Full, Failed, NoMemory}
-use Rattle.store.specs.snap_journal.Inner.Reads.{IsNextBody, IsWhyNot}
+use Rattle.store.specs.snap_journal.Inner.Reads.{IsNextBody, NextBodyErrorCause}
 use Rattle.store.specs.snap_journal.Inner.Found.{IsFound, IsFoundBase, entries_kept, is_disk_fault}
 use Rattle.store.specs.snap_journal.Inner.Settled.{IsSettled, KnowsDisk}
 use Rattle.store.specs.snap_journal.Disks.{DiskPast}
-use Rattle.store.specs.snap_journal.Last.{last_body_or, last_body, IsLast, IsWhyNoLast}
-use Rattle.store.specs.snap_journal.Answers.{IsWhyNotOpened}
+use Rattle.store.specs.snap_journal.Last.{last_body_or, last_body, IsLast, LastErrorCause}
+use Rattle.store.specs.snap_journal.Answers.{OpenErrorCause}
 use Rattle.store.proofs.snap_journal.AppendLemmas.{rose_after}
 
 -- so many records were read, with these entries and this last body, and the next gate stands at this place
@@ -125,7 +125,7 @@ goes_on_here header number gate seen here body more same next opened =
     subst (λ (l : List ℕ). IsNextBody header number gate l body true) same (subst (IsNextBody header number gate here body) opened next)
 
 -- why it was not read on is why it was not opened
-pub why_not_opened : (told : Type 0) (header : Header) (seen here : List ℕ) (count gate before mid now : ℕ) (keep : Bool) (entries : List Entry) (last : List ℕ) (fault : JournalFault) → (told → here ≡ seen) → (told → ReadSoFar header seen count gate keep entries last) → before ≤ mid → IsWhyNot told header (count + 1) gate here mid now fault → IsWhyNotOpened told header seen before now fault
+pub why_not_opened : (told : Type 0) (header : Header) (seen here : List ℕ) (count gate before mid now : ℕ) (keep : Bool) (entries : List Entry) (last : List ℕ) (fault : JournalFault) → (told → here ≡ seen) → (told → ReadSoFar header seen count gate keep entries last) → before ≤ mid → NextBodyErrorCause told header (count + 1) gate here mid now fault → OpenErrorCause told header seen before now fault
 why_not_opened told header seen here count gate before mid now keep entries last DiskFault same so_far le why = rose_after before mid now le why
 why_not_opened told header seen here count gate before mid now keep entries last (BadStore fault) same so_far le why = λ is. read_fault header seen count gate keep entries last (so_far is) fault (ap (λ (l : List ℕ). bodies_from header (count + 1) gate 0 (drop gate l)) (sym (same is)) ∙ why is)
 why_not_opened told header seen here count gate before mid now keep entries last (Full stored bytes) same so_far le why = absurd why
@@ -133,7 +133,7 @@ why_not_opened told header seen here count gate before mid now keep entries last
 why_not_opened told header seen here count gate before mid now keep entries last NoMemory same so_far le why = tt
 
 -- the same, of a call before which the disk was synced
-pub why_through : (told : Type 0) (header : Header) (old_seen mid_seen : List ℕ) (before mid now : ℕ) (fault : JournalFault) → (told → mid_seen ≡ old_seen) → before ≤ mid → IsWhyNotOpened told header mid_seen mid now fault → IsWhyNotOpened told header old_seen before now fault
+pub why_through : (told : Type 0) (header : Header) (old_seen mid_seen : List ℕ) (before mid now : ℕ) (fault : JournalFault) → (told → mid_seen ≡ old_seen) → before ≤ mid → OpenErrorCause told header mid_seen mid now fault → OpenErrorCause told header old_seen before now fault
 why_through told header old_seen mid_seen before mid now DiskFault same le why = rose_after before mid now le why
 why_through told header old_seen mid_seen before mid now (BadStore fault) same le why = λ is. subst (λ (l : List ℕ). read_store header l ≡ Err fault) (same is) (why is)
 why_through told header old_seen mid_seen before mid now (Full stored bytes) same le why = absurd why
@@ -161,7 +161,7 @@ last_found header seen count gate entries body base found entries_are body_is so
     )
 
 -- why no last snapshot was read from a disk that a journal knew
-pub why_no_last : (told : Type 0) (header : Header) (seen : List ℕ) (before now : ℕ) (fault : JournalFault) → (told → IsTrue (is_ok (read_store header seen))) → IsWhyNotOpened told header seen before now fault → IsWhyNoLast told false (is_disk_fault fault) before now fault
+pub why_no_last : (told : Type 0) (header : Header) (seen : List ℕ) (before now : ℕ) (fault : JournalFault) → (told → IsTrue (is_ok (read_store header seen))) → OpenErrorCause told header seen before now fault → LastErrorCause told false (is_disk_fault fault) before now fault
 why_no_last told header seen before now DiskFault reads why = (refl, refl, why)
 why_no_last told header seen before now (BadStore fault) reads why = (λ is. not_both (read_store header seen) fault (reads is) (why is), refl, refl)
   where

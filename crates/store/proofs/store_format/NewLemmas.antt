@@ -12,7 +12,7 @@ use Rattle.store.specs.declared.store_format.faults.StoreFault.{StoreFault}
 use Rattle.store.specs.store_format.Fields.{field}
 use Rattle.store.specs.store_format.Headers.{store_word, store_header, field_fault, digest_in, machines_fault, other_graph, other_program, unformed_fault, other_fault, store_header_fault, IsAllowed, HeaderFits}
 use Rattle.store.specs.store_format.Records.{bodies_from}
-use Rattle.store.specs.store_format.Stores.{unless_refused, StandsFor}
+use Rattle.store.specs.store_format.Stores.{unless_refused, DecodesTo}
 
 -- a field of the first bytes
 pub field-take : (most at n : ℕ) (bytes : List ℕ) → at + n ≤ most → field (take most bytes) at n ≡ field bytes at n
@@ -80,7 +80,7 @@ module _ (header : Header) (allowed : IsAllowed header) (fits : HeaderFits heade
       (rw (eq-eqb (field bytes 14 1) header.algorithm algorithm, eq-eqb (field bytes 15 1) header.directed directed, eq-eqb (field bytes 16 8) header.source source) refl))
 
   -- a new store stands for no snapshots
-  pub new_stands : StandsFor header [] (bytes ++ 0 ∷ [])
+  pub new_stands : DecodesTo header [] (bytes ++ 0 ∷ [])
   new_stands =
       let front : take 64 (bytes ++ 0 ∷ []) ≡ bytes = take-append-le 64 bytes (0 ∷ []) (omega (arith, long)) ∙ take_all 64 bytes (omega (arith, long)) in
       let back : drop 64 (bytes ++ 0 ∷ []) ≡ 0 ∷ [] = drop-append-le 64 bytes (0 ∷ []) (omega (arith, long)) ∙ ap (λ (l : List ℕ). l ++ 0 ∷ []) (drop_all 64 bytes (omega (arith, long))) in

@@ -10,7 +10,7 @@ use Rattle.store.specs.declared.store_format.faults.StoreFault.{StoreFault}
 use Rattle.store.specs.store_format.Headers.{store_header_fault}
 use Rattle.store.specs.store_format.Bodies.{IsBody}
 use Rattle.store.specs.store_format.Records.{length_in, bodies_from, with_body, stored_bytes}
-use Rattle.store.specs.store_format.Stores.{unless_refused, read_store, StandsFor, stored_in, records_size}
+use Rattle.store.specs.store_format.Stores.{unless_refused, read_store, DecodesTo, stored_in, records_size}
 use Rattle.store.proofs.store_format.ReadLemmas.{IsStored, bodies_from-record, bodies_from-closed, prepend, prepend-Ok, read_to}
 
 pub refused_not : (fault : Option StoreFault) (records : Result (List (List ℕ)) StoreFault) (bodies : List (List ℕ)) → unless_refused fault records ≡ Ok bodies → (fault ≡ None) × (records ≡ Ok bodies)
@@ -31,7 +31,7 @@ pub record IsBased (header : Header) (bodies : List (List ℕ)) (bytes : List �
   pub closed : gate ≢ 1
   pub is_base : IsBase header bodies base
 
-pub based : (header : Header) (bodies : List (List ℕ)) (bytes : List ℕ) → StandsFor header bodies bytes → IsBased header bodies bytes
+pub based : (header : Header) (bodies : List (List ℕ)) (bytes : List ℕ) → DecodesTo header bodies bytes → IsBased header bodies bytes
 based header bodies bytes stands =
     let parts = refused_not (store_header_fault header (take 64 bytes)) (bodies_from header 1 64 0 (drop 64 bytes)) bodies stands in
     let read = read_to header 1 64 (drop 64 bytes) bodies parts.1 in
@@ -62,30 +62,30 @@ based header bodies bytes stands =
     }
 
 -- with a gate that isn't open it stands for these snapshots
-pub stands_closed : (header : Header) (bodies : List (List ℕ)) (base : List ℕ) (gate : ℕ) (more : List ℕ) → IsBase header bodies base → gate ≢ 1 → StandsFor header bodies (base ++ gate ∷ more)
+pub stands_closed : (header : Header) (bodies : List (List ℕ)) (base : List ℕ) (gate : ℕ) (more : List ℕ) → IsBase header bodies base → gate ≢ 1 → DecodesTo header bodies (base ++ gate ∷ more)
 stands_closed header bodies base gate more is closed =
     is.any gate more ∙ ap (prepend bodies) (bodies_from-closed header (1 + length bodies) (length base) gate more closed)
     ∙ prepend-Ok bodies [] ∙ ap (λ (l : List (List ℕ)). Ok l) (append-nil bodies)
 
 -- with an open gate and a record behind it, for one more
-pub stands_open : (header : Header) (bodies : List (List ℕ)) (base front : List ℕ) (gate : ℕ) (more : List ℕ) → IsBase header bodies base → IsStored header (1 + length bodies) front → gate ≢ 1 → StandsFor header (bodies ++ drop 8 front ∷ []) (base ++ 1 ∷ (front ++ gate ∷ more))
+pub stands_open : (header : Header) (bodies : List (List ℕ)) (base front : List ℕ) (gate : ℕ) (more : List ℕ) → IsBase header bodies base → IsStored header (1 + length bodies) front → gate ≢ 1 → DecodesTo header (bodies ++ drop 8 front ∷ []) (base ++ 1 ∷ (front ++ gate ∷ more))
 stands_open header bodies base front gate more is stored closed =
     is.any 1 (front ++ gate ∷ more)
     ∙ ap (prepend bodies) (bodies_from-record header (1 + length bodies) (length base) front gate more stored ∙ ap (with_body (drop 8 front)) (bodies_from-closed header (1 + length bodies + 1) (length base + (1 + length front)) gate more closed))
     ∙ prepend-Ok bodies (drop 8 front ∷ [])
 
 -- the snapshots that bytes without a fault stand for
-pub stands_of : (header : Header) (bytes : List ℕ) → IsTrue (is_ok (read_store header bytes)) → StandsFor header (stored_in header bytes) bytes
+pub stands_of : (header : Header) (bytes : List ℕ) → IsTrue (is_ok (read_store header bytes)) → DecodesTo header (stored_in header bytes) bytes
 stands_of header bytes ok = ok_of (read_store header bytes) ok
   where
     ok_of : (read : Result (List (List ℕ)) StoreFault) → IsTrue (is_ok read) → read ≡ Ok (result_unwrap_or read [])
     ok_of (Ok bodies) ok = refl
     ok_of (Err fault) ok = absurd (cc)
 
-pub stored_are : (header : Header) (bytes : List ℕ) (bodies : List (List ℕ)) → StandsFor header bodies bytes → stored_in header bytes ≡ bodies
+pub stored_are : (header : Header) (bytes : List ℕ) (bodies : List (List ℕ)) → DecodesTo header bodies bytes → stored_in header bytes ≡ bodies
 stored_are header bytes bodies stands = ap (λ (r : Result (List (List ℕ)) StoreFault). result_unwrap_or r []) stands
 
-pub ok_from : (header : Header) (bytes : List ℕ) (bodies : List (List ℕ)) → StandsFor header bodies bytes → IsTrue (is_ok (read_store header bytes))
+pub ok_from : (header : Header) (bytes : List ℕ) (bodies : List (List ℕ)) → DecodesTo header bodies bytes → IsTrue (is_ok (read_store header bytes))
 ok_from header bytes bodies stands = ap (is_ok {T = List (List ℕ)} {E = StoreFault}) stands
 
 -- the length and the body of a record

@@ -12,26 +12,26 @@ abbrev pub IsFullFor : ℕ → ℕ → ℕ → Type 0
 IsFullFor count length size = (4096 ≤ count) ⊎ (2 ^ 30 < length + size)
 
 -- why no store was made: it has bytes already, or there was a fault of the disk
-abbrev pub IsWhyNotMade : Type 0 → ℕ → ℕ → ℕ → JournalFault → Type 0
-IsWhyNotMade told length before now DiskFault = Rose before now
-IsWhyNotMade told length before now (BadStore fault) = told → (0 < length) × (fault ≡ NotEmpty length)
-IsWhyNotMade told length before now (Full stored bytes) = ⊥
-IsWhyNotMade told length before now Failed = ⊥
-IsWhyNotMade told length before now NoMemory = ⊥
+abbrev pub InitErrorCause : Type 0 → ℕ → ℕ → ℕ → JournalFault → Type 0
+InitErrorCause told length before now DiskFault = Rose before now
+InitErrorCause told length before now (BadStore fault) = told → (0 < length) × (fault ≡ NotEmpty length)
+InitErrorCause told length before now (Full stored bytes) = ⊥
+InitErrorCause told length before now Failed = ⊥
+InitErrorCause told length before now NoMemory = ⊥
 
 -- why a store was not opened: it has this first fault, or there was a fault of the disk or want of memory
-abbrev pub IsWhyNotOpened : Type 0 → Header → List ℕ → ℕ → ℕ → JournalFault → Type 0
-IsWhyNotOpened told header seen before now DiskFault = Rose before now
-IsWhyNotOpened told header seen before now (BadStore fault) = told → read_store header seen ≡ Err fault
-IsWhyNotOpened told header seen before now (Full stored bytes) = ⊥
-IsWhyNotOpened told header seen before now Failed = ⊥
-IsWhyNotOpened told header seen before now NoMemory = ⊤
+abbrev pub OpenErrorCause : Type 0 → Header → List ℕ → ℕ → ℕ → JournalFault → Type 0
+OpenErrorCause told header seen before now DiskFault = Rose before now
+OpenErrorCause told header seen before now (BadStore fault) = told → read_store header seen ≡ Err fault
+OpenErrorCause told header seen before now (Full stored bytes) = ⊥
+OpenErrorCause told header seen before now Failed = ⊥
+OpenErrorCause told header seen before now NoMemory = ⊤
 
 -- Why a record of so many bytes was not added to a store of so many snapshots and bytes. `old` and `new` tell whether an earlier
 -- call had found a fault of the disk, and whether one has now; `same` says that nothing changed.
-abbrev pub IsWhyNotAdded : Type 0 → Bool → Bool → ℕ → ℕ → ℕ → ℕ → ℕ → JournalFault → Type 0
-IsWhyNotAdded same old new before now count length size DiskFault = (old ≡ false) × (new ≡ true) × Rose before now
-IsWhyNotAdded same old new before now count length size (BadStore fault) = ⊥
-IsWhyNotAdded same old new before now count length size (Full stored bytes) = (old ≡ false) × (stored ≡ count) × (bytes ≡ length) × IsFullFor count length size × same
-IsWhyNotAdded same old new before now count length size Failed = (old ≡ true) × same
-IsWhyNotAdded same old new before now count length size NoMemory = same
+abbrev pub JournalAppendErrorCause : Type 0 → Bool → Bool → ℕ → ℕ → ℕ → ℕ → ℕ → JournalFault → Type 0
+JournalAppendErrorCause same old new before now count length size DiskFault = (old ≡ false) × (new ≡ true) × Rose before now
+JournalAppendErrorCause same old new before now count length size (BadStore fault) = ⊥
+JournalAppendErrorCause same old new before now count length size (Full stored bytes) = (old ≡ false) × (stored ≡ count) × (bytes ≡ length) × IsFullFor count length size × same
+JournalAppendErrorCause same old new before now count length size Failed = (old ≡ true) × same
+JournalAppendErrorCause same old new before now count length size NoMemory = same

@@ -2,7 +2,7 @@
 use Rattle.std.specs.Prelude.{ℕ, Bool, List}
 use Rattle.store.specs.declared.store_format.header.Header.{Header}
 use Rattle.store.specs.snap_journal.Disks.{DiskPast, IsImage}
-use Rattle.store.specs.snap_journal.Formats.{StandsFor, stored_in}
+use Rattle.store.specs.snap_journal.Formats.{DecodesTo, stored_in}
 
 -- the disk, what the store is for, how many snapshots and bytes it has, and whether an earlier call found a fault of the disk
 pub record JournalState (D : Type 0) : Type 0 where
@@ -17,5 +17,5 @@ abbrev pub snapshots_in : {D : Type 0} → (D → DiskPast) → JournalState D �
 snapshots_in past journal = stored_in journal.header (past journal.disk).now.seen
 
 -- whatever a crash now leaves stands for these snapshots
-abbrev pub AllStandFor : Header → List (List ℕ) → DiskPast → Type 0
-AllStandFor header bodies past = (image : List ℕ) → IsImage past.now image → StandsFor header bodies image
+abbrev pub AllDecodeTo : Header → List (List ℕ) → DiskPast → Type 0
+AllDecodeTo header bodies past = (image : List ℕ) → IsImage past.now image → DecodesTo header bodies image

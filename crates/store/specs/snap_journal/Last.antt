@@ -37,9 +37,9 @@ pub record FitsHeader (header : Header) (base : Base) : Type 0 where
 
 -- Why no last snapshot was read. `old` and `new` tell whether an earlier call had found a fault of the disk, and whether one has now.
 -- Where a disk tells what it holds, its bytes are a store.
-abbrev pub IsWhyNoLast : Type 0 → Bool → Bool → ℕ → ℕ → JournalFault → Type 0
-IsWhyNoLast told old new before now DiskFault = (old ≡ false) × (new ≡ true) × Rose before now
-IsWhyNoLast told old new before now (BadStore fault) = (¬ told) × (old ≡ false) × (new ≡ false)
-IsWhyNoLast told old new before now (Full stored bytes) = ⊥
-IsWhyNoLast told old new before now Failed = (old ≡ true) × (new ≡ true)
-IsWhyNoLast told old new before now NoMemory = (old ≡ false) × (new ≡ false)
+abbrev pub LastErrorCause : Type 0 → Bool → Bool → ℕ → ℕ → JournalFault → Type 0
+LastErrorCause told old new before now DiskFault = (old ≡ false) × (new ≡ true) × Rose before now
+LastErrorCause told old new before now (BadStore fault) = (¬ told) × (old ≡ false) × (new ≡ false)
+LastErrorCause told old new before now (Full stored bytes) = ⊥
+LastErrorCause told old new before now Failed = (old ≡ true) × (new ≡ true)
+LastErrorCause told old new before now NoMemory = (old ≡ false) × (new ≡ false)

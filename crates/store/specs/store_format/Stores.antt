@@ -17,8 +17,8 @@ read_store header bytes =
     unless_refused (store_header_fault header (take 64 bytes)) (bodies_from header 1 64 0 (drop 64 bytes))
 
 -- the bytes stand for these snapshots
-abbrev pub StandsFor : Header → List (List ℕ) → List ℕ → Type 0
-StandsFor header bodies bytes = read_store header bytes ≡ Ok bodies
+abbrev pub DecodesTo : Header → List (List ℕ) → List ℕ → Type 0
+DecodesTo header bodies bytes = read_store header bytes ≡ Ok bodies
 
 -- the snapshots that the bytes stand for, none where they have a fault
 abbrev pub stored_in : Header → List ℕ → List (List ℕ)
@@ -31,4 +31,4 @@ records_size (body ∷ bodies) = 9 + length body + records_size bodies
 
 -- the bytes stand for these snapshots, or for these and one more
 abbrev pub IsBeforeOrAfter : Header → List (List ℕ) → List ℕ → List ℕ → Type 0
-IsBeforeOrAfter header bodies body bytes = StandsFor header bodies bytes ⊎ StandsFor header (bodies ++ body ∷ []) bytes
+IsBeforeOrAfter header bodies body bytes = DecodesTo header bodies bytes ⊎ DecodesTo header (bodies ++ body ∷ []) bytes

@@ -1,7 +1,7 @@
 //! Reads of a disk.
 ghost use Rattle.std.specs.Prelude.{◌≡◌, ◌+◌, ◌^◌, ◌<◌, ◌≤◌, length, take, drop, IsTrue, IfOk, IfErr};
 ghost use Rattle.store.specs.snap_journal.Disks.{Counts};
-ghost use Rattle.store.specs.snap_journal.Inner.Reads.{IsFilled, IsWhyUnread};
+ghost use Rattle.store.specs.snap_journal.Inner.Reads.{IsFilled, ReadErrorCause};
 
 use crate::snap_journal::JournalFault;
 use gl_outside::{Disk, Failed};
@@ -11,9 +11,9 @@ use std::alloc::Global;
 fn read_full<D: Disk>(disk: &mut D, at: u64, buf: &mut [u8]) -> Result<usize, Failed>
     requires { at + length buf.old < 2 ^ 64 }
     ensures bound { IfOk result (λ count. count ≤ length buf.new) }
-    ensures bytes { IsTrue D.told →
+    ensures bytes { IsTrue D.observable →
         IfOk result (λ count. IsFilled (D.past disk.old).now.seen at buf.new count) }
-    ensures past { IsTrue D.told → D.past disk.new ≡ D.past disk.old }
+    ensures past { IsTrue D.observable → D.past disk.new ≡ D.past disk.old }
     ensures same { D.same disk.old disk.new }
     ensures counts { Counts (D.faults disk.old) (D.faults disk.new) result }
 {
@@ -37,11 +37,11 @@ pub fn read_front<D: Disk>(
 ) -> Result<Vec<u8>, JournalFault>
     requires { at + count < 2 ^ 64 }
     ensures most { IfOk result (λ front. length front.items ≤ count) }
-    ensures bytes { IsTrue D.told →
+    ensures bytes { IsTrue D.observable →
         IfOk result (λ front. front.items ≡ take count (drop at (D.past disk.old).now.seen)) }
-    ensures past { IsTrue D.told → D.past disk.new ≡ D.past disk.old }
+    ensures past { IsTrue D.observable → D.past disk.new ≡ D.past disk.old }
     ensures same { D.same disk.old disk.new }
-    ensures fault { IfErr result (IsWhyUnread (D.faults disk.old) (D.faults disk.new)) }
+    ensures fault { IfErr result (ReadErrorCause (D.faults disk.old) (D.faults disk.new)) }
     ensures later { D.faults disk.old ≤ D.faults disk.new }
 {
     let mut front = vec![in alloc; 0u8; count]?;

@@ -2,8 +2,8 @@
 ghost use Rattle.std.specs.Prelude.{◌≡◌, ◌⊎◌, ℕ, ◌+◌, ◌^◌, ◌<◌, ◌≤◌, ◌++◌, List, [], ◌∷◌, true, false, Ok, Err, length, IsTrue, IfOk, IfErr, OnOk, OnErr, IsErr};
 ghost use Rattle.store.specs.snap_journal.Disks.{LeavesOnly};
 ghost use Rattle.store.specs.snap_journal.Formats.{IsBody, body_bytes, RecordFits, IsBeforeOrAfter, records_size, stored_order};
-ghost use Rattle.store.specs.snap_journal.Journals.{snapshots_in, AllStandFor};
-ghost use Rattle.store.specs.snap_journal.Answers.{IsFullFor, IsWhyNotAdded};
+ghost use Rattle.store.specs.snap_journal.Journals.{snapshots_in, AllDecodeTo};
+ghost use Rattle.store.specs.snap_journal.Answers.{IsFullFor, JournalAppendErrorCause};
 ghost use Rattle.store.specs.snap_journal.Inner.Settled.{FollowsOn, body_between};
 
 use crate::snap_journal::JournalFault;
@@ -42,17 +42,17 @@ impl<D: Disk> Model for Journal<D> {
     } };
 
     ghost invariant = { λ j.
-        KnowsDisk (IsTrue D.told) j.header j.count j.gate j.failed (D.past j.disk) };
+        KnowsDisk (IsTrue D.observable) j.header j.count j.gate j.failed (D.past j.disk) };
 }
 
 impl<D: Disk> Journal<D> {
     /// How many snapshots are stored. Whatever a crash now leaves has them.
     pub fn count(&self) -> u32
         ensures count { result ≡ self.now.count }
-        ensures stored { IsTrue D.told → self.now.failed ≡ false →
+        ensures stored { IsTrue D.observable → self.now.failed ≡ false →
             result ≡ length (snapshots_in D.past self.now) }
-        ensures durable { IsTrue D.told → self.now.failed ≡ false →
-            AllStandFor self.now.header (snapshots_in D.past self.now) (D.past self.now.disk) }
+        ensures durable { IsTrue D.observable → self.now.failed ≡ false →
+            AllDecodeTo self.now.header (snapshots_in D.past self.now) (D.past self.now.disk) }
     {
         self.count
     }
@@ -67,7 +67,7 @@ impl<D: Disk> Journal<D> {
     /// How many bytes the store has.
     pub fn length(&self) -> u64
         ensures length { result ≡ self.now.length }
-        ensures stored { IsTrue D.told → self.now.failed ≡ false →
+        ensures stored { IsTrue D.observable → self.now.failed ≡ false →
             result ≡ 65 + records_size (snapshots_in D.past self.now) }
     {
         self.gate + 1
@@ -76,7 +76,7 @@ impl<D: Disk> Journal<D> {
     /// How many entries the order of the last snapshot has: by the store's length, since all else
     /// of a record has one size.
     pub fn entries(&self) -> u64
-        ensures { IsTrue D.told → self.now.failed ≡ false →
+        ensures { IsTrue D.observable → self.now.failed ≡ false →
             result ≡ length (stored_order (snapshots_in D.past self.now)) }
     {
         let apart = 64 + u128::from(self.count) * (9 + u128::from(body_size(&self.header, 0)));
@@ -100,15 +100,15 @@ impl<D: Disk> Journal<D> {
         requires fits { RecordFits next.now }
         requires form { IsBody self.old.header (1 + self.old.count) (body_bytes next.now) }
 
-        ensures acknowledged { IsTrue D.told →
+        ensures acknowledged { IsTrue D.observable →
             OnOk result (snapshots_in D.past self.new ≡ snapshots_in D.past
             self.old ++ body_bytes next.now ∷ []) }
-        ensures durable { IsTrue D.told →
-            OnOk result (AllStandFor self.new.header
+        ensures durable { IsTrue D.observable →
+            OnOk result (AllDecodeTo self.new.header
             (snapshots_in D.past self.old ++ body_bytes next.now ∷ []) (D.past self.new.disk)) }
 
         // A crash at any moment of the call.
-        ensures any_moment { IsTrue D.told → self.old.failed ≡ false →
+        ensures any_moment { IsTrue D.observable → self.old.failed ≡ false →
             LeavesOnly (D.past self.old.disk) (D.past self.new.disk)
             (IsBeforeOrAfter self.old.header (snapshots_in D.past self.old) (body_bytes next.now)) }
 
@@ -118,7 +118,7 @@ impl<D: Disk> Journal<D> {
             (self.new.length ≡ self.old.length + (9 + length (body_bytes next.now))) }
         ensures well { OnOk result ((self.old.failed ≡ false) × (self.new.failed ≡ false)) }
         ensures refused { IfErr result
-            (IsWhyNotAdded (self.new ≡ self.old) self.old.failed self.new.failed
+            (JournalAppendErrorCause (self.new ≡ self.old) self.old.failed self.new.failed
             (D.faults self.old.disk)
             (D.faults self.new.disk) self.old.count self.old.length
             (9 + length (body_bytes next.now))) }
@@ -143,13 +143,13 @@ impl<D: Disk> Journal<D> {
         requires follows { FollowsOn self.old.header self.old.count piece.now }
         requires well { self.old.failed ≡ false }
 
-        ensures acknowledged { IsTrue D.told →
+        ensures acknowledged { IsTrue D.observable →
             OnOk result (snapshots_in D.past self.new ≡ snapshots_in D.past
             self.old ++ body_between piece.now ∷ []) }
-        ensures durable { IsTrue D.told →
-            OnOk result (AllStandFor self.new.header
+        ensures durable { IsTrue D.observable →
+            OnOk result (AllDecodeTo self.new.header
             (snapshots_in D.past self.old ++ body_between piece.now ∷ []) (D.past self.new.disk)) }
-        ensures any_moment { IsTrue D.told →
+        ensures any_moment { IsTrue D.observable →
             LeavesOnly (D.past self.old.disk) (D.past self.new.disk)
             (IsBeforeOrAfter self.old.header (snapshots_in D.past self.old)
             (body_between piece.now)) }
@@ -158,7 +158,7 @@ impl<D: Disk> Journal<D> {
         ensures grown { OnOk result (self.new.length ≡ self.old.length + length piece.now) }
         ensures well { OnOk result (self.new.failed ≡ false) }
         ensures refused { IfErr result
-            (IsWhyNotAdded (self.new ≡ self.old) self.old.failed self.new.failed
+            (JournalAppendErrorCause (self.new ≡ self.old) self.old.failed self.new.failed
             (D.faults self.old.disk)
             (D.faults self.new.disk) self.old.count self.old.length (length piece.now)) }
         ensures full { IsFullFor self.old.count self.old.length (length piece.now)

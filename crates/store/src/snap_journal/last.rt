@@ -2,8 +2,8 @@
 ghost use Rattle.std.specs.Prelude.{◌≡◌, ◌+◌, ◌^◌, ◌<◌, ◌≤◌, false, IsTrue, IfOk, IfErr, IfSome};
 ghost use Rattle.store.specs.snap_journal.Formats.{stored_in, HasSections};
 ghost use Rattle.store.specs.snap_journal.Journals.{snapshots_in};
-ghost use Rattle.store.specs.snap_journal.Answers.{IsWhyNotOpened};
-ghost use Rattle.store.specs.snap_journal.Last.{FitsHeader, IsLast, IsWhyNoLast};
+ghost use Rattle.store.specs.snap_journal.Answers.{OpenErrorCause};
+ghost use Rattle.store.specs.snap_journal.Last.{FitsHeader, IsLast, LastErrorCause};
 ghost use Rattle.store.specs.snap_journal.Inner.Found.{IsFoundBase, is_disk_fault};
 
 use crate::snap_journal::opening::{Found, survey};
@@ -18,14 +18,14 @@ impl<D: Disk> Journal<D> {
     /// memory at a time beside the order. After `DiskFault` each later call is refused with
     /// `Failed`: open the store again.
     pub fn last(&mut self, alloc: Global) -> Result<Option<Base>, JournalFault>
-        ensures last { IsTrue D.told →
+        ensures last { IsTrue D.observable →
             IfOk result (IsLast self.old.header (snapshots_in D.past self.old)) }
         ensures fits { IfOk result (λ last. IfSome last (FitsHeader self.old.header)) }
         ensures well { IfOk result (λ last. (self.old.failed ≡ false) × (self.new.failed ≡ false)) }
         ensures refused { IfErr result
-            (IsWhyNoLast (IsTrue D.told) self.old.failed self.new.failed (D.faults self.old.disk)
+            (LastErrorCause (IsTrue D.observable) self.old.failed self.new.failed (D.faults self.old.disk)
             (D.faults self.new.disk)) }
-        ensures past { IsTrue D.told → D.past self.new.disk ≡ D.past self.old.disk }
+        ensures past { IsTrue D.observable → D.past self.new.disk ≡ D.past self.old.disk }
         ensures kept { self.new ≡ record self.old {
           disk = self.new.disk;
           failed = self.new.failed;
@@ -62,13 +62,13 @@ fn read_last<D: Disk>(
     disk: &mut D,
     header: &Header,
 ) -> Result<Option<Base>, JournalFault>
-    ensures last { IsTrue D.told →
+    ensures last { IsTrue D.observable →
         IfOk result (IsLast header.now (stored_in header.now (D.past disk.old).now.seen)) }
     ensures fits { IfOk result (λ last. IfSome last (FitsHeader header.now)) }
     ensures fault { IfErr result
-        (IsWhyNotOpened (IsTrue D.told) header.now (D.past disk.old).now.seen
+        (OpenErrorCause (IsTrue D.observable) header.now (D.past disk.old).now.seen
         (D.faults disk.old) (D.faults disk.new)) }
-    ensures past { IsTrue D.told → D.past disk.new ≡ D.past disk.old }
+    ensures past { IsTrue D.observable → D.past disk.new ≡ D.past disk.old }
     ensures same { D.same disk.old disk.new }
     ensures later { D.faults disk.old ≤ D.faults disk.new }
 {

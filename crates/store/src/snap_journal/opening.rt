@@ -1,9 +1,9 @@
 //! How a store is opened.
 ghost use Rattle.std.specs.Prelude.{◌≡◌, ◌+◌, ◌^◌, ◌<◌, ◌≤◌, ◌++◌, [], ◌∷◌, false, length, IsTrue, IfOk, IfErr, OnOk};
 ghost use Rattle.store.specs.snap_journal.Disks.{LeavesOnly, IsImage};
-ghost use Rattle.store.specs.snap_journal.Formats.{StandsFor, records_size, stored_in, HasSections, sections_place};
-ghost use Rattle.store.specs.snap_journal.Journals.{snapshots_in, AllStandFor};
-ghost use Rattle.store.specs.snap_journal.Answers.{IsWhyNotOpened};
+ghost use Rattle.store.specs.snap_journal.Formats.{DecodesTo, records_size, stored_in, HasSections, sections_place};
+ghost use Rattle.store.specs.snap_journal.Journals.{snapshots_in, AllDecodeTo};
+ghost use Rattle.store.specs.snap_journal.Answers.{OpenErrorCause};
 ghost use Rattle.store.specs.snap_journal.Last.{last_body};
 ghost use Rattle.store.specs.snap_journal.Inner.Found.{IsFound, entries_kept};
 ghost use Rattle.store.specs.snap_journal.Inner.Settled.{IsAtRest};
@@ -47,13 +47,13 @@ pub fn survey<D: Disk>(
     header: &Header,
     keep: bool,
 ) -> Result<Found, JournalFault>
-    ensures found { IsTrue D.told →
+    ensures found { IsTrue D.observable →
         IfOk result (λ found.
         IsFound header.now (D.past disk.old).now.seen found.count found.gate) }
-    ensures entries { IsTrue D.told →
+    ensures entries { IsTrue D.observable →
         IfOk result (λ found.
         found.entries.items ≡ entries_kept keep (stored_in header.now (D.past disk.old).now.seen)) }
-    ensures body { IsTrue D.told →
+    ensures body { IsTrue D.observable →
         IfOk result (λ found.
         found.body.items ≡ last_body (stored_in header.now (D.past disk.old).now.seen)) }
     ensures form { IfOk result (λ found. 0 < found.count →
@@ -61,9 +61,9 @@ pub fn survey<D: Disk>(
     ensures within { IfOk result (λ found. found.gate + 1 < 2 ^ 64) }
     ensures numbered { IfOk result (λ found. found.count + 1 < 2 ^ 32) }
     ensures fault { IfErr result
-        (IsWhyNotOpened (IsTrue D.told) header.now (D.past disk.old).now.seen
+        (OpenErrorCause (IsTrue D.observable) header.now (D.past disk.old).now.seen
         (D.faults disk.old) (D.faults disk.new)) }
-    ensures past { IsTrue D.told → D.past disk.new ≡ D.past disk.old }
+    ensures past { IsTrue D.observable → D.past disk.new ≡ D.past disk.old }
     ensures same { D.same disk.old disk.new }
     ensures later { D.faults disk.old ≤ D.faults disk.new }
 {
@@ -98,33 +98,33 @@ impl<D: Disk> Journal<D> {
     pub fn open(alloc: Global, disk: D, header: &Header) -> Result<Journal<D>, (JournalFault, D)>
         ensures header { IfOk result (λ journal. (journal.header ≡ header.now) ×
             (journal.failed ≡ false)) }
-        ensures bytes { IsTrue D.told →
+        ensures bytes { IsTrue D.observable →
             IfOk result (λ journal. (D.past journal.disk).now.seen ≡ (D.past disk).now.seen) }
 
         // After it all that a crash may leave stands for one list of snapshots, which is the
         // journal's.
-        ensures durable { IsTrue D.told →
+        ensures durable { IsTrue D.observable →
             IfOk result (λ journal.
-            AllStandFor header.now (snapshots_in D.past journal) (D.past journal.disk)) }
-        ensures stands { IsTrue D.told →
+            AllDecodeTo header.now (snapshots_in D.past journal) (D.past journal.disk)) }
+        ensures stands { IsTrue D.observable →
             IfOk result (λ journal.
-            StandsFor header.now (snapshots_in D.past journal) (D.past disk).now.seen) }
+            DecodesTo header.now (snapshots_in D.past journal) (D.past disk).now.seen) }
 
-        ensures counted { IsTrue D.told →
+        ensures counted { IsTrue D.observable →
             IfOk result (λ journal. journal.count ≡ length (snapshots_in D.past journal)) }
-        ensures sized { IsTrue D.told →
+        ensures sized { IsTrue D.observable →
             IfOk result (λ journal.
             journal.length ≡ 65 + records_size (snapshots_in D.past journal)) }
 
         // A crash at any moment of the call leaves what one as it began might have left.
-        ensures any_moment { IsTrue D.told →
+        ensures any_moment { IsTrue D.observable →
             IfOk result (λ journal.
             LeavesOnly (D.past disk) (D.past journal.disk) (IsImage (D.past disk).now)) }
-        ensures any_moment_of_fault { IsTrue D.told →
+        ensures any_moment_of_fault { IsTrue D.observable →
             IfErr result (λ refused.
             LeavesOnly (D.past disk) (D.past refused.1) (IsImage (D.past disk).now)) }
         ensures fault { IfErr result (λ refused.
-            IsWhyNotOpened (IsTrue D.told) header.now (D.past disk).now.seen (D.faults disk)
+            OpenErrorCause (IsTrue D.observable) header.now (D.past disk).now.seen (D.faults disk)
             (D.faults refused.1) refused.0) }
         ensures same { IfOk result (λ journal. D.same disk journal.disk) }
         ensures later { IfOk result (λ journal. D.faults disk ≤ D.faults journal.disk) }
@@ -151,17 +151,17 @@ fn synced_and_read<D: Disk>(
     disk: &mut D,
     header: &Header,
 ) -> Result<Found, JournalFault>
-    ensures found { IsTrue D.told →
+    ensures found { IsTrue D.observable →
         IfOk result (λ found.
         IsFound header.now (D.past disk.new).now.seen found.count found.gate) }
-    ensures bytes { IsTrue D.told → (D.past disk.new).now.seen ≡ (D.past disk.old).now.seen }
-    ensures synced { IsTrue D.told →
+    ensures bytes { IsTrue D.observable → (D.past disk.new).now.seen ≡ (D.past disk.old).now.seen }
+    ensures synced { IsTrue D.observable →
         IfOk result (λ found. IsAtRest (D.past disk.new).now (D.past disk.old).now.seen) }
     ensures within { IfOk result (λ found. found.gate + 1 < 2 ^ 64) }
-    ensures any_moment { IsTrue D.told →
+    ensures any_moment { IsTrue D.observable →
         LeavesOnly (D.past disk.old) (D.past disk.new) (IsImage (D.past disk.old).now) }
     ensures fault { IfErr result
-        (IsWhyNotOpened (IsTrue D.told) header.now (D.past disk.old).now.seen
+        (OpenErrorCause (IsTrue D.observable) header.now (D.past disk.old).now.seen
         (D.faults disk.old) (D.faults disk.new)) }
     ensures same { D.same disk.old disk.new }
     ensures later { D.faults disk.old ≤ D.faults disk.new }

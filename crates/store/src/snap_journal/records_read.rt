@@ -3,7 +3,7 @@ ghost use Rattle.std.specs.Prelude.{◌≡◌, ℕ, ◌+◌, ◌^◌, ◌<◌, �
 ghost use Rattle.store.specs.store_format.Bodies.{body_fault};
 ghost use Rattle.store.specs.store_format.Records.{bodies_from};
 ghost use Rattle.store.specs.snap_journal.Formats.{IsBody};
-ghost use Rattle.store.specs.snap_journal.Inner.Reads.{IsNextLength, IsNextBody, IsWhyBad, IsWhyNot};
+ghost use Rattle.store.specs.snap_journal.Inner.Reads.{IsNextLength, IsNextBody, BodyErrorCause, NextBodyErrorCause};
 
 use crate::snap_journal::JournalFault;
 use crate::snap_journal::disk_reads::read_front;
@@ -62,17 +62,17 @@ fn next_length<D: Disk>(
     len: u64,
 ) -> Result<Option<u64>, JournalFault>
     requires inside { at ≤ len }
-    requires len { IsTrue D.told → len ≡ length (D.past disk.old).now.seen }
-    ensures next { IsTrue D.told →
+    requires len { IsTrue D.observable → len ≡ length (D.past disk.old).now.seen }
+    ensures next { IsTrue D.observable →
         IfOk result (IsNextLength header.now number at (drop at (D.past disk.old).now.seen)) }
     ensures here { IfOk result (λ next. at < len) }
     ensures room { IfOk result (λ next. IfSome next (λ size. at + 10 + size ≤ len)) }
     ensures least { IfOk result (λ next. IfSome next (λ size. 8 ≤ size)) }
     ensures small { IfOk result (λ next. IfSome next (λ size. size < 2 ^ 38)) }
     ensures fault { IfErr result
-        (IsWhyNot (IsTrue D.told) header.now number at (D.past disk.old).now.seen
+        (NextBodyErrorCause (IsTrue D.observable) header.now number at (D.past disk.old).now.seen
         (D.faults disk.old) (D.faults disk.new)) }
-    ensures past { IsTrue D.told → D.past disk.new ≡ D.past disk.old }
+    ensures past { IsTrue D.observable → D.past disk.new ≡ D.past disk.old }
     ensures same { D.same disk.old disk.new }
     ensures later { D.faults disk.old ≤ D.faults disk.new }
 {
@@ -99,7 +99,7 @@ fn check_body(
     ensures none { OnOk result (body_fault header.now number body.now ≡ None) }
     ensures numbers { OnOk result (number < 4294967295) }
     ensures form { OnOk result (IsBody header.now number body.now) }
-    ensures fault { IfErr result (IsWhyBad header.now number at size body.now) }
+    ensures fault { IfErr result (BodyErrorCause header.now number at size body.now) }
 {
     if (body.len() as u64) < size {
         return Err(JournalFault::BadStore(StoreFault::Torn(at + 9 + body.len() as u64)));
@@ -125,8 +125,8 @@ pub fn next_body<D: Disk>(
     body: &mut Vec<u8>,
 ) -> Result<bool, JournalFault>
     requires inside { at ≤ len }
-    requires len { IsTrue D.told → len ≡ length (D.past disk.old).now.seen }
-    ensures next { IsTrue D.told →
+    requires len { IsTrue D.observable → len ≡ length (D.past disk.old).now.seen }
+    ensures next { IsTrue D.observable →
         IfOk result (λ more.
         IsNextBody header.now number at (D.past disk.old).now.seen body.new.items more) }
     ensures kept { IfOk result (λ more. more ≡ false → body.new ≡ body.old) }
@@ -135,9 +135,9 @@ pub fn next_body<D: Disk>(
     ensures numbers { IfOk result (λ more. more ≡ true → number < 4294967295) }
     ensures form { IfOk result (λ more. more ≡ true → IsBody header.now number body.new.items) }
     ensures fault { IfErr result
-        (IsWhyNot (IsTrue D.told) header.now number at (D.past disk.old).now.seen
+        (NextBodyErrorCause (IsTrue D.observable) header.now number at (D.past disk.old).now.seen
         (D.faults disk.old) (D.faults disk.new)) }
-    ensures past { IsTrue D.told → D.past disk.new ≡ D.past disk.old }
+    ensures past { IsTrue D.observable → D.past disk.new ≡ D.past disk.old }
     ensures same { D.same disk.old disk.new }
     ensures later { D.faults disk.old ≤ D.faults disk.new }
 {

@@ -8,14 +8,14 @@ use Rattle.cluster_laws.specs.cluster_core.Messages as core
 use Rattle.cluster_laws.specs.cluster_core.Settings.{IsSetting, Setting}
 use Rattle.cluster_laws.specs.cluster_model.Calls.{Begin, Call, Committed, Report, Saved, Want, begins_in, sections_in}
 use Rattle.cluster_laws.specs.cluster_model.Clusters.{BaseView, Cluster, report_way}
-use Rattle.cluster_laws.specs.cluster_model.Events.{Event, Admit, DeliverCall, DeliverReport, Deliver, Fail, Grant, Mark, MayDo, IsCourse, PutBegin, PutStep, PutWave, Record, Recover, Section, Send, SendCall, SendReport, Stop, Update, after_event, recovers, setting_after}
+use Rattle.cluster_laws.specs.cluster_model.Events.{Event, Admit, DeliverCall, DeliverReport, Deliver, Fail, Grant, Mark, MayDo, IsTrace, PutBegin, PutStep, PutWave, Record, Recover, Section, Send, SendCall, SendReport, Stop, Update, after_event, recovers, setting_after}
 use Rattle.cluster_laws.specs.cluster_model.Leading.{Come}
 use Rattle.cluster_laws.specs.cluster_model.Machines.{Machine}
 use Rattle.whole_laws.specs.cluster_whole.Views.{section_of, world_of}
 use Rattle.whole_laws.specs.cluster_whole.Whole.{IsWhole}
 use Rattle.whole_laws.proofs.cluster_whole.Wholeness.{whole_kept}
 use Rattle.whole_laws.specs.cluster_ending.Snapshotting.{AreInformed, IsReportOf, MayBeSaved, MayBegin, MayCommit}
-use Rattle.whole_laws.proofs.cluster_ending.Courses.{setting_is}
+use Rattle.whole_laws.proofs.cluster_ending.Traces.{setting_is}
 use Rattle.whole_laws.proofs.cluster_ending.Informing.{event_informed, may_commit, some_length}
 
 zero_more : (n : ℕ) → 0 + n ≡ n
@@ -117,7 +117,7 @@ informed_kept st c whole was (Fail a) may = moved st c whole was (Fail a) may (�
 informed_kept st c whole was Stop may = moved st c whole was Stop may (λ base same. cc)
 informed_kept st c whole was (Recover base) may = recovered_informed st base c
 
-pub courses_informed : (st : Setting) → IsSetting st → (events : List Event) (old new : Cluster) → IsWhole st old → AreInformed old → IsCourse st old events new → AreInformed new
-courses_informed st is [] old new whole was course = subst AreInformed (sym course) was
-courses_informed st is (event ∷ events) old new whole was course =
-    courses_informed (setting_after st event) (setting_is st is event) events (after_event st old event) new (whole_kept st is old whole event course.0.1) (informed_kept st old whole was event course.0.1) course.1
+pub traces_informed : (st : Setting) → IsSetting st → (events : List Event) (old new : Cluster) → IsWhole st old → AreInformed old → IsTrace st old events new → AreInformed new
+traces_informed st is [] old new whole was trace = subst AreInformed (sym trace) was
+traces_informed st is (event ∷ events) old new whole was trace =
+    traces_informed (setting_after st event) (setting_is st is event) events (after_event st old event) new (whole_kept st is old whole event trace.0.1) (informed_kept st old whole was event trace.0.1) trace.1

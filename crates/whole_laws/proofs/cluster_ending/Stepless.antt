@@ -8,7 +8,7 @@ use Rattle.cluster_laws.specs.cluster_core.Settings.{Chromatic, Locking, Setting
 use Rattle.cluster_laws.proofs.cluster_core.Basics.{set_at-holds}
 use Rattle.cluster_laws.specs.cluster_model.Calls.{Begin, Call, Committed, Count, Report, Saved, Step, Want, Wave}
 use Rattle.cluster_laws.specs.cluster_model.Clusters.{Cluster, call_way}
-use Rattle.cluster_laws.specs.cluster_model.Events.{Event, Admit, DeliverCall, DeliverReport, Deliver, Fail, Grant, Mark, MayDo, IsCourse, PutBegin, PutStep, PutWave, Record, Recover, Section, Send, SendCall, SendReport, Stop, Update, after_event, delivers_call, delivers_message, delivers_report, makes, saves, sends_call, sends_message, sends_report, setting_after}
+use Rattle.cluster_laws.specs.cluster_model.Events.{Event, Admit, DeliverCall, DeliverReport, Deliver, Fail, Grant, Mark, MayDo, IsTrace, PutBegin, PutStep, PutWave, Record, Recover, Section, Send, SendCall, SendReport, Stop, Update, after_event, delivers_call, delivers_message, delivers_report, makes, saves, sends_call, sends_message, sends_report, setting_after}
 use Rattle.whole_laws.proofs.cluster_whole.Pieces.{passed}
 use Rattle.whole_laws.specs.cluster_ending.Snapshotting.{HasNoSteps, IsNoStep}
 
@@ -96,10 +96,10 @@ engine_same st (Fail a) = refl
 engine_same st (Recover base) = refl
 engine_same st Stop = refl
 
-pub courses_without_steps : (st : Setting) → st.engine ≡ Locking → (events : List Event) (old new : Cluster) → HasNoSteps old → IsCourse st old events new → HasNoSteps new
-courses_without_steps st locks [] old new was course = subst HasNoSteps (sym course) was
-courses_without_steps st locks (event ∷ events) old new was course =
-    courses_without_steps (setting_after st event) (engine_same st event ∙ locks) events (after_event st old event) new (no_steps_kept st locks old was event course.0.1) course.1
+pub traces_without_steps : (st : Setting) → st.engine ≡ Locking → (events : List Event) (old new : Cluster) → HasNoSteps old → IsTrace st old events new → HasNoSteps new
+traces_without_steps st locks [] old new was trace = subst HasNoSteps (sym trace) was
+traces_without_steps st locks (event ∷ events) old new was trace =
+    traces_without_steps (setting_after st event) (engine_same st event ∙ locks) events (after_event st old event) new (no_steps_kept st locks old was event trace.0.1) trace.1
 
 pub no_step_front : (c : Cluster) → HasNoSteps c → (a colour : ℕ) (behind : List Call) → c.calls a ≡ Step colour ∷ behind → ⊥
 no_step_front c was a colour behind first = (subst (λ (cs : List Call). AllByRecursion IsNoStep (cs ++ c.coordinator.out a)) first (was a)).0

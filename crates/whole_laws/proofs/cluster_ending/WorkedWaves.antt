@@ -9,7 +9,7 @@ use Rattle.graph_core.specs.DataGraph.{IsBefore, IsEdge}
 use Rattle.cluster_laws.specs.cluster_core.Ranges.{all_passing, first_passing}
 use Rattle.cluster_laws.specs.cluster_core.Recovering.{going_on}
 use Rattle.cluster_laws.specs.cluster_core.Settings.{Chromatic, IsSetting, Locking}
-use Rattle.cluster_laws.specs.cluster_model.Events.{IsCourse}
+use Rattle.cluster_laws.specs.cluster_model.Events.{IsTrace}
 use Rattle.cluster_laws.specs.cluster_model.Leading.{HasSeenTheEnd}
 use Rattle.cluster_laws.specs.cluster_model.Totals.{total_from}
 use Rattle.cluster_laws.specs.cluster_model.TwoWaves.{IsIdleAnswer, ShowTheEnd, no_counts, total_received, total_sent}
@@ -93,7 +93,7 @@ no_colours colour colours is = cc
 none_stored : false ≡ true → ⊥
 none_stored is = both_ways true (sym is) refl
 
-pub lone_may : IsCourse (going_on on_one_machine on_one_machine.start 0) (started_from on_one_machine) lone_events after_lone_run
+pub lone_may : IsTrace (going_on on_one_machine on_one_machine.start 0) (started_from on_one_machine) lone_events after_lone_run
 unfolding first_passing all_passing total_from
 lone_may =
     let awake : (0 < 1) × (0 < 1) = (omega arith, omega arith) in (

@@ -9,7 +9,7 @@ use Rattle.cluster_laws.specs.cluster_core.Recovering.{going_on}
 use Rattle.cluster_laws.specs.cluster_core.Settings.{IsSetting, Setting}
 use Rattle.cluster_laws.specs.cluster_model.Calls.{Call, Count, Report, Saved, Want}
 use Rattle.cluster_laws.specs.cluster_model.Clusters.{BaseView, Cluster, call_way, report_way}
-use Rattle.cluster_laws.specs.cluster_model.Events.{Event, Admit, DeliverCall, DeliverReport, Deliver, Fail, Grant, IsCourse, Mark, MayDo, PutBegin, PutStep, PutWave, Record, Recover, Section, Send, SendCall, SendReport, Stop, Update, after_event, delivers_call, delivers_message, delivers_report, makes, recovers, saves, sends_call, sends_message, sends_report, setting_after}
+use Rattle.cluster_laws.specs.cluster_model.Events.{Event, Admit, DeliverCall, DeliverReport, Deliver, Fail, Grant, IsTrace, Mark, MayDo, PutBegin, PutStep, PutWave, Record, Recover, Section, Send, SendCall, SendReport, Stop, Update, after_event, delivers_call, delivers_message, delivers_report, makes, recovers, saves, sends_call, sends_message, sends_report, setting_after}
 use Rattle.cluster_laws.specs.cluster_model.Machines.{outside}
 use Rattle.cluster_laws.specs.cluster_model.Working.{half_window}
 use Rattle.whole_laws.specs.cluster_whole.Logged.{Logged, entries_to, is_up_to}
@@ -19,7 +19,7 @@ use Rattle.whole_laws.specs.cluster_records.Recorded.{IsAccounted}
 use Rattle.whole_laws.specs.cluster_records.Wanting.{AreAsking, known_by_calls, is_outside, numbers_from, want_told}
 use Rattle.whole_laws.proofs.cluster_records.Accounts.{begun_accounts, quiet_kept, update_kept}
 use Rattle.whole_laws.proofs.cluster_records.Asking.{events_asking, update_asking}
-use Rattle.whole_laws.proofs.cluster_records.Courses.{are_coloured}
+use Rattle.whole_laws.proofs.cluster_records.Traces.{are_coloured}
 use Rattle.whole_laws.proofs.cluster_records.Entering.{IsNoUpdate, own_logged, update_logged}
 use Rattle.whole_laws.proofs.cluster_records.Filtering.{all_up_to, passing-append, passing-cons_in, passing-cons_out, up_to_no, up_to_yes}
 use Rattle.whole_laws.proofs.cluster_records.Outside.{many_outside, out_no}
@@ -310,16 +310,16 @@ last_few x pend earlier held long y next first few all drawn left total tickets 
 plus_none : (n : ℕ) → n + 0 ≡ n
 plus_none n = omega arith
 
-courses_few : (half first budget : ℕ) (events : List Event) (st : Setting) → IsSetting st → half_window st ≡ half → (c new : Cluster) (has : HasAccounts st c) (stored unasked earlier : ℕ) →
-    HasFew half first (first + budget) c has.logged stored unasked earlier → IsCourse st c events new → half * (stored + snapshots_in_all events) + pending half new ≤ budget + half * (unasked + unasked_in st c events)
-courses_few half first budget [] st is same_half c new has stored unasked earlier tally course =
-    subst (λ (x : Cluster). half * (stored + 0) + pending half x ≤ budget + half * (unasked + 0)) (sym course)
+traces_few : (half first budget : ℕ) (events : List Event) (st : Setting) → IsSetting st → half_window st ≡ half → (c new : Cluster) (has : HasAccounts st c) (stored unasked earlier : ℕ) →
+    HasFew half first (first + budget) c has.logged stored unasked earlier → IsTrace st c events new → half * (stored + snapshots_in_all events) + pending half new ≤ budget + half * (unasked + unasked_in st c events)
+traces_few half first budget [] st is same_half c new has stored unasked earlier tally trace =
+    subst (λ (x : Cluster). half * (stored + 0) + pending half x ≤ budget + half * (unasked + 0)) (sym trace)
     (subst (λ (n : ℕ). half * n + pending half c ≤ budget + half * (unasked + 0)) (sym (plus_none stored))
     (subst (λ (n : ℕ). half * stored + pending half c ≤ budget + half * n) (sym (plus_none unasked))
     (last_few (half * stored) (pending half c) earlier (length (entries_to c.coordinator.begun has.logged)) (length has.logged) (half * unasked) c.next first tally.few (held_few c.coordinator.begun has.logged) tally.drawn c.left (first + budget) tally.tickets budget refl)))
-courses_few half first budget (event ∷ events) st is same_half c new has stored unasked earlier tally course =
-    let next = event_few half first (first + budget) st is same_half c has stored unasked earlier tally event course.0.1 in
-    let rest = courses_few half first budget events (setting_after st event) next.0 next.1 (after_event st c event) new next.2 (snapshot_at event + stored) (unasked_at c event + unasked) next.3 next.4 course.1 in
+traces_few half first budget (event ∷ events) st is same_half c new has stored unasked earlier tally trace =
+    let next = event_few half first (first + budget) st is same_half c has stored unasked earlier tally event trace.0.1 in
+    let rest = traces_few half first budget events (setting_after st event) next.0 next.1 (after_event st c event) new next.2 (snapshot_at event + stored) (unasked_at c event + unasked) next.3 next.4 trace.1 in
     subst (λ (n : ℕ). half * n + pending half new ≤ budget + half * (unasked + unasked_in st c (event ∷ events))) (regroup (snapshot_at event) stored (snapshots_in_all events))
     (subst (λ (n : ℕ). half * ((snapshot_at event + stored) + snapshots_in_all events) + pending half new ≤ budget + half * n) (regroup (unasked_at c event) unasked (unasked_in (setting_after st event) (after_event st c event) events)) rest)
 
@@ -337,19 +337,19 @@ with_pending half stored c = mul-add half stored (under_way c) ∙ ap (λ (n : �
 from_first : (n : ℕ) → n ≡ n + 0 + 0
 from_first n = omega arith
 
-pub attempts_few : (st : Setting) → IsSetting st → AreColoured st st.engine → (base : BaseView) (c : Cluster) (events : List Event) (new : Cluster) → IsCourse (going_on st base.numbers base.number) (recovers st base c) events new →
+pub attempts_few : (st : Setting) → IsSetting st → AreColoured st st.engine → (base : BaseView) (c : Cluster) (events : List Event) (new : Cluster) → IsTrace (going_on st base.numbers base.number) (recovers st base c) events new →
     half_window st * (snapshots_in_all events + under_way new) ≤ c.left + half_window st * unasked_in (going_on st base.numbers base.number) (recovers st base c) events
-attempts_few st is coloured base c events new course =
+attempts_few st is coloured base c events new trace =
     let start : Cluster = recovers st base c in
     let now : Setting = going_on st base.numbers base.number in
     let half : ℕ = half_window st in
     let begun = begun_accounts st is coloured base c in
-    let rest = courses_few half c.next c.left events now (record { graph = is.graph; owner = is.owner }) refl start new (record { whole = begun.0; logged = []; account = begun.1; asking = begun_asking st base c }) 0 0 0
+    let rest = traces_few half c.next c.left events now (record { graph = is.graph; owner = is.owner }) refl start new (record { whole = begun.0; logged = []; account = begun.1; asking = begun_asking st base c }) 0 0 0
     (record {
       few = first_few (half * 0) (half * 0) (pending half start) (mul-zero half) (cond-false (nat_lt base.number base.number) half 0 (le-ltb base.number base.number (le_refl base.number)));
       drawn = from_first c.next;
       tickets = refl;
-    }) course in
+    }) trace in
     subst (λ (n : ℕ). n ≤ c.left + half * unasked_in now start events) (sym (with_pending half (snapshots_in_all events) new))
     (subst (λ (n : ℕ). half * n + pending half new ≤ c.left + half * unasked_in now start events) (zero-add (snapshots_in_all events))
     (subst (λ (n : ℕ). half * (0 + snapshots_in_all events) + pending half new ≤ c.left + half * n) (zero-add (unasked_in now start events)) rest))

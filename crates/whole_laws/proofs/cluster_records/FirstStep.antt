@@ -3,7 +3,7 @@ use Rattle.std.proofs.Common.{◌≡◌, ◌≢◌, ◌⊎◌, ℕ, zero, suc, �
 use Rattle.std.proofs.lemmas.List.Elements.{All-from_recursion}
 use Rattle.gl_base.specs.declared.scopes.Claim.{Claim}
 use Rattle.cluster_laws.specs.cluster_model.Clusters.{Cluster}
-use Rattle.cluster_laws.specs.cluster_model.Events.{Admit, Grant, IsCourse, MayDo, recovers}
+use Rattle.cluster_laws.specs.cluster_model.Events.{Admit, Grant, IsTrace, MayDo, recovers}
 use Rattle.cluster_laws.specs.cluster_places.Steps.{AreApart}
 use Rattle.whole_laws.specs.cluster_records.LineOfFour.{colour_in_line, first_step, in_first_step, line_base, line_in_colours, line_of_four}
 
@@ -34,8 +34,8 @@ one_two is = omega arith
 pub coloured : AreApart line_in_colours colour_in_line
 coloured = All-from_recursion (λ e. colour_in_line e.from ≢ colour_in_line e.to) line_of_four.edges (one_two, (two_one, (one_two, tt)))
 
-pub course : (c : Cluster) → IsCourse line_in_colours (recovers line_in_colours line_base c) first_step (in_first_step c)
-course c = (
+pub trace : (c : Cluster) → IsTrace line_in_colours (recovers line_in_colours line_base c) first_step (in_first_step c)
+trace c = (
   (refl, (λ due. false_true due.stored, record { colour = colour_in_line; colours = 2; by = refl; some = low; whole = refl; over = inl refl })),
   (
     (refl, (low, record { message = _; behind = _; first = refl })),

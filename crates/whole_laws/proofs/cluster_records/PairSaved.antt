@@ -4,7 +4,7 @@ use Rattle.gl_base.specs.declared.scopes.ScopeId.{ScopeId}
 use Rattle.cluster_laws.specs.cluster_core.Ranges.{first_passing}
 use Rattle.cluster_laws.specs.cluster_core.Scopes.{is_scope, set_for}
 use Rattle.cluster_laws.specs.cluster_model.Calls.{Want}
-use Rattle.cluster_laws.specs.cluster_model.Events.{Admit, IsCourse, MayDo, entries_in_all, newest_of}
+use Rattle.cluster_laws.specs.cluster_model.Events.{Admit, IsTrace, MayDo, entries_in_all, newest_of}
 use Rattle.cluster_laws.specs.cluster_model.Machines.{outside}
 use Rattle.cluster_laws.specs.cluster_model.Totals.{total_from}
 use Rattle.cluster_laws.specs.cluster_model.TwoWaves.{IsIdleAnswer}
@@ -49,7 +49,7 @@ three_free v = cleared after_two (pair_scope 2) 1 v (two_free v)
 low : 0 < 1
 low = omega arith
 
-pub updates_may : IsCourse pair_alone pair_at_first pair_updates pair_updated
+pub updates_may : IsTrace pair_alone pair_at_first pair_updates pair_updated
 unfolding first_passing
 updates_may = (
   (
@@ -103,7 +103,7 @@ one_alone : (P : ℕ → Type 0) → P 0 → (a : ℕ) → a < 1 → P a
 one_alone P first zero low = first
 one_alone P first (suc n) low = absurd (no_other n low)
 
-pub saves_may : IsCourse pair_alone pair_updated pair_saves pair_saved
+pub saves_may : IsTrace pair_alone pair_updated pair_saves pair_saved
 unfolding first_passing total_from
 saves_may = (
   (refl, (record { machine = low; runs = refl }, record { message = _; behind = _; first = refl })),

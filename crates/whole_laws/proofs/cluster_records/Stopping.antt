@@ -9,7 +9,7 @@ use Rattle.cluster_laws.specs.cluster_core.Settings.{Setting}
 use Rattle.cluster_laws.proofs.cluster_core.Basics.{set_at-other}
 use Rattle.cluster_laws.specs.cluster_model.Calls.{Call, Count, Report, Saved, Want}
 use Rattle.cluster_laws.specs.cluster_model.Clusters.{Cluster}
-use Rattle.cluster_laws.specs.cluster_model.Events.{Event, Admit, DeliverCall, DeliverReport, Deliver, Fail, Grant, IsAwake, IsCourse, Mark, MayDo, PutBegin, PutStep, PutWave, Record, Recover, Section, Send, SendCall, SendReport, Stop, Update, after_event, delivers_call, delivers_message, delivers_report, makes, saves, sends_call, sends_message, sends_report, setting_after}
+use Rattle.cluster_laws.specs.cluster_model.Events.{Event, Admit, DeliverCall, DeliverReport, Deliver, Fail, Grant, IsAwake, IsTrace, Mark, MayDo, PutBegin, PutStep, PutWave, Record, Recover, Section, Send, SendCall, SendReport, Stop, Update, after_event, delivers_call, delivers_message, delivers_report, makes, saves, sends_call, sends_message, sends_report, setting_after}
 use Rattle.cluster_laws.specs.cluster_model.Leading.{Snapshot}
 use Rattle.cluster_laws.specs.cluster_model.Machines.{Machine}
 use Rattle.cluster_laws.specs.cluster_model.Working.{admits, fails, grants, hands, hands_report, makes_mark, makes_update, prompt, receives, sections, takes_call}
@@ -60,11 +60,11 @@ module _ (st : Setting) (c : Cluster) (a : ℕ) (failed : (c.machine a).failed �
   event_stops (Recover base) may other = absurd (other base refl)
   event_stops Stop may other = refl
 
-pub course_stops : (events : List Event) (st : Setting) → AllByRecursion IsNoRecovery events → (old new : Cluster) (a : ℕ) → IsCourse st old events new → (old.machine a).failed ≡ true → new.machine a ≡ old.machine a
-course_stops [] st none old new a course failed = λ i. (course i).machine a
-course_stops (event ∷ events) st none old new a course failed =
-    let one : (after_event st old event).machine a ≡ old.machine a = event_stops st old a failed event course.0.1 none.0 in
-    course_stops events (setting_after st event) none.1 (after_event st old event) new a course.1 (ap (λ (m : Machine). m.failed) one ∙ failed) ∙ one
+pub trace_stops : (events : List Event) (st : Setting) → AllByRecursion IsNoRecovery events → (old new : Cluster) (a : ℕ) → IsTrace st old events new → (old.machine a).failed ≡ true → new.machine a ≡ old.machine a
+trace_stops [] st none old new a trace failed = λ i. (trace i).machine a
+trace_stops (event ∷ events) st none old new a trace failed =
+    let one : (after_event st old event).machine a ≡ old.machine a = event_stops st old a failed event trace.0.1 none.0 in
+    trace_stops events (setting_after st event) none.1 (after_event st old event) new a trace.1 (ap (λ (m : Machine). m.failed) one ∙ failed) ∙ one
 
 -- ---- an acknowledged snapshot
 
@@ -95,9 +95,9 @@ event_keeps st c (Fail a) may other = event_adds st c (Fail a) may other (λ sam
 event_keeps st c (Recover base) may other = absurd (other base refl)
 event_keeps st c Stop may other = event_adds st c Stop may other (λ same. cc)
 
-pub course_keeps : (events : List Event) (st : Setting) → AllByRecursion IsNoRecovery events → (old new : Cluster) → IsCourse st old events new → HasMore old new
-course_keeps [] st none old new course = ([], (λ i. (course i).coordinator.snapshots) ∙ sym (append-nil old.coordinator.snapshots))
-course_keeps (event ∷ events) st none old new course =
-    let one = event_keeps st old event course.0.1 none.0 in
-    let rest = course_keeps events (setting_after st event) none.1 (after_event st old event) new course.1 in
+pub trace_keeps : (events : List Event) (st : Setting) → AllByRecursion IsNoRecovery events → (old new : Cluster) → IsTrace st old events new → HasMore old new
+trace_keeps [] st none old new trace = ([], (λ i. (trace i).coordinator.snapshots) ∙ sym (append-nil old.coordinator.snapshots))
+trace_keeps (event ∷ events) st none old new trace =
+    let one = event_keeps st old event trace.0.1 none.0 in
+    let rest = trace_keeps events (setting_after st event) none.1 (after_event st old event) new trace.1 in
     (one.0 ++ rest.0, rest.1 ∙ ap (λ (ss : List Snapshot). ss ++ rest.0) one.1 ∙ append_assoc old.coordinator.snapshots one.0 rest.0)

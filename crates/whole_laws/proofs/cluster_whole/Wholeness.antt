@@ -15,7 +15,7 @@ use Rattle.cluster_laws.specs.cluster_cuts.Goings.{GoesOn, IsOneStep}
 use Rattle.cluster_laws.proofs.cluster_cuts.Beginning.{first_kept, recovered_starts, recovered_unmarked}
 use Rattle.cluster_laws.proofs.cluster_cuts.CutsGoOn.{goes_not, goes_then, step_goes}
 use Rattle.cluster_laws.specs.cluster_model.Clusters.{BaseView, Cluster}
-use Rattle.cluster_laws.specs.cluster_model.Events.{Event, Admit, DeliverCall, DeliverReport, Deliver, Fail, Grant, Mark, MayDo, IsCourse, PutBegin, PutStep, PutWave, Record, Recover, Section, Send, SendCall, SendReport, Stop, Update, after_event, recovers, setting_after}
+use Rattle.cluster_laws.specs.cluster_model.Events.{Event, Admit, DeliverCall, DeliverReport, Deliver, Fail, Grant, Mark, MayDo, IsTrace, PutBegin, PutStep, PutWave, Record, Recover, Section, Send, SendCall, SendReport, Stop, Update, after_event, recovers, setting_after}
 use Rattle.cluster_laws.specs.cluster_model.Leading.{RecordIsDue}
 use Rattle.whole_laws.specs.cluster_whole.Logged.{IsLogged, Logged}
 use Rattle.whole_laws.specs.cluster_whole.Views.{section_of, world_of}
@@ -142,14 +142,14 @@ module _ (st : Setting) (is : IsSetting st) where
 
   -- ---- every list of events of an attempt
 
-  pub goes_on : (events : List Event) → AllByRecursion IsNoRecovery events → (old new : Cluster) (whole : IsWhole st old) → IsCourse st old events new → GoesOn st (world_of old) whole.consistent (world_of new)
+  pub goes_on : (events : List Event) → AllByRecursion IsNoRecovery events → (old new : Cluster) (whole : IsWhole st old) → IsTrace st old events new → GoesOn st (world_of old) whole.consistent (world_of new)
   unfolding whole_with
-  goes_on [] all old new whole course = subst (λ (c : Cluster). GoesOn st (world_of old) whole.consistent (world_of c)) (sym course) (goes_not st (world_of old) whole.consistent)
-  goes_on (event ∷ events) all old new whole course =
+  goes_on [] all old new whole trace = subst (λ (c : Cluster). GoesOn st (world_of old) whole.consistent (world_of c)) (sym trace) (goes_not st (world_of old) whole.consistent)
+  goes_on (event ∷ events) all old new whole trace =
       let mid : Cluster = after_event st old event in
-      let one : GoesOn st (world_of old) whole.consistent (world_of mid) = step_goes st is (world_of old) whole.consistent (world_of mid) (event_step old whole event course.0.1 all.0) in
-      let next : IsWhole st mid = whole_with old whole event course.0.1 all.0 one.next in
-      let rest : IsCourse st mid events new = subst (λ (s : Setting). IsCourse s mid events new) (setting_same st event all.0) course.1 in
+      let one : GoesOn st (world_of old) whole.consistent (world_of mid) = step_goes st is (world_of old) whole.consistent (world_of mid) (event_step old whole event trace.0.1 all.0) in
+      let next : IsWhole st mid = whole_with old whole event trace.0.1 all.0 one.next in
+      let rest : IsTrace st mid events new = subst (λ (s : Setting). IsTrace s mid events new) (setting_same st event all.0) trace.1 in
       goes_then st (world_of old) (world_of mid) (world_of new) whole.consistent one (goes_on events all.1 mid new next rest)
 
 -- ---- each event, and every list of events
@@ -174,10 +174,10 @@ whole_kept st is c whole (Fail a) may = event_moved st is c whole (Fail a) may (
 whole_kept st is c whole Stop may = event_moved st is c whole Stop may (λ base same. cc)
 whole_kept st is c whole (Recover base) may = recovered_whole st is (are_coloured st st.engine c whole.apart) base c
 
-pub courses_stay : (st : Setting) → IsSetting st → (events : List Event) (old new : Cluster) → IsWhole st old → IsCourse st old events new → IsWhole (setting_behind st events) new
-courses_stay st is [] old new whole course = subst (IsWhole st) (sym course) whole
-courses_stay st is (event ∷ events) old new whole course =
-    courses_stay (setting_after st event) (setting_is st is event) events (after_event st old event) new (whole_kept st is old whole event course.0.1) course.1
+pub traces_stay : (st : Setting) → IsSetting st → (events : List Event) (old new : Cluster) → IsWhole st old → IsTrace st old events new → IsWhole (setting_behind st events) new
+traces_stay st is [] old new whole trace = subst (IsWhole st) (sym trace) whole
+traces_stay st is (event ∷ events) old new whole trace =
+    traces_stay (setting_after st event) (setting_is st is event) events (after_event st old event) new (whole_kept st is old whole event trace.0.1) trace.1
 
 -- ---- records
 

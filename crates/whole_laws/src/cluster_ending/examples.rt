@@ -2,7 +2,7 @@
 ghost use Rattle.std.specs.Prelude.{◌≡◌, false, List, [], ◌∷◌};
 ghost use Rattle.cluster_laws.specs.cluster_core.Recovering.{going_on};
 ghost use Rattle.cluster_laws.specs.cluster_core.Settings.{IsSetting};
-ghost use Rattle.cluster_laws.specs.cluster_model.Events.{IsCourse};
+ghost use Rattle.cluster_laws.specs.cluster_model.Events.{IsTrace};
 ghost use Rattle.cluster_laws.specs.cluster_model.Leading.{HasSeenTheEnd};
 ghost use Rattle.cluster_laws.specs.cluster_model.TwoWaves.{ShowTheEnd, no_counts, total_received, total_sent};
 ghost use Rattle.whole_laws.specs.cluster_ending.FourWaves.{after_four_waves, after_lone_run, after_one_wave, after_three_waves, after_two_waves, early_answers, late_answers, lone_events, on_one_machine, started_from};
@@ -34,7 +34,7 @@ pub fn waves_of_a_pair()
 /// so that the premises of what is claimed of courses are met.
 pub fn a_run_to_its_end()
     ensures setting { IsSetting on_one_machine × AreColoured on_one_machine on_one_machine.engine }
-    ensures course { IsCourse (going_on on_one_machine on_one_machine.start 0)
+    ensures trace { IsTrace (going_on on_one_machine on_one_machine.start 0)
         (started_from on_one_machine) lone_events after_lone_run }
     ensures end { HasSeenTheEnd after_lone_run.coordinator }
     ensures none_begun { after_lone_run.coordinator.begun ≡ 0 }

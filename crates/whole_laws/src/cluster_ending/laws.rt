@@ -12,7 +12,7 @@ ghost use Rattle.whole_laws.specs.cluster_ending.Watched.{HasNoTaskLeft, IsNotAb
 ghost use Rattle.cluster_laws.specs.cluster_model.Calls.{Begin, Call, Committed, Count, Report, Saved, Step, Want, Wave};
 ghost use Rattle.cluster_laws.specs.cluster_model.Clusters.{BaseView, Cluster, report_way};
 ghost use Rattle.cluster_laws.specs.cluster_model.Counting.{MayBeCounted};
-ghost use Rattle.cluster_laws.specs.cluster_model.Events.{Event, IsCourse, MayDo, after_event, recovers, setting_after};
+ghost use Rattle.cluster_laws.specs.cluster_model.Events.{Event, IsTrace, MayDo, after_event, recovers, setting_after};
 ghost use Rattle.cluster_laws.specs.cluster_model.Leading.{HasSeenTheEnd};
 ghost use Rattle.cluster_laws.specs.cluster_model.Machines.{Machine, count_of};
 ghost use Rattle.cluster_laws.specs.cluster_model.Totals.{total};
@@ -35,8 +35,8 @@ pub fn events_keep_waves()
         else watch.begun_before))
         × (later.begun_newest ≡ (if puts_wave_out event then c.coordinator.begun
         else watch.begun_newest)) }
-    ensures course { (st : Setting) (events : List Event) (old new : Cluster) →
-        IsSetting st → IsFollowed st old → IsCourse st old events new →
+    ensures trace { (st : Setting) (events : List Event) (old new : Cluster) →
+        IsSetting st → IsFollowed st old → IsTrace st old events new →
         IsFollowed (setting_behind st events) new }
 {}
 
@@ -62,7 +62,7 @@ pub fn quiet_waves_end_all()
         IsWhole st c → IsWatched st c watch → HasSeenTheEnd c.coordinator → watch.begun_before ≡ c.coordinator.begun → HasEnded st c }
     ensures since { (st : Setting) (events : List Event) (old new : Cluster) →
         IsSetting st → IsFollowed st old → AllByRecursion IsNoRecovery events →
-        AllByRecursion IsNoBegin events → IsCourse st old events new →
+        AllByRecursion IsNoBegin events → IsTrace st old events new →
         2 + old.coordinator.rounds.counting.put_out ≤ new.coordinator.rounds.counting.put_out → HasSeenTheEnd new.coordinator → HasEnded st new }
     ensures no_snapshot { (st : Setting) (c : Cluster) →
         IsFollowed st c → HasSeenTheEnd c.coordinator →
@@ -71,17 +71,17 @@ pub fn quiet_waves_end_all()
 
 /// The same of every list of events from the start of an attempt on, with failures and recoveries
 /// among them.
-pub fn courses_end_where_waves_say()
+pub fn traces_end_where_waves_say()
     ensures order { (st : Setting) (base : BaseView) (first : Cluster)
         (events : List Event) (c : Cluster) →
         IsSetting st → AreColoured st st.engine →
-        IsCourse (going_on st base.numbers base.number) (recovers st base first) events c →
+        IsTrace (going_on st base.numbers base.number) (recovers st base first) events c →
         HasSeenTheEnd c.coordinator →
         HasFinishedOrder (setting_behind (going_on st base.numbers base.number) events) c }
     ensures ended { (st : Setting) (base : BaseView) (first : Cluster)
         (events : List Event) (c : Cluster) →
         IsSetting st → AreColoured st st.engine →
-        IsCourse (going_on st base.numbers base.number) (recovers st base first) events c →
+        IsTrace (going_on st base.numbers base.number) (recovers st base first) events c →
         HasSeenTheEnd c.coordinator →
         c.coordinator.begun ≡ (setting_behind (going_on st base.numbers base.number) events).base →
         HasEnded (setting_behind (going_on st base.numbers base.number) events) c }
@@ -137,9 +137,9 @@ pub fn events_keep_machines_informed()
         AreInformed (recovers st base c) }
     ensures goes_on { (st : Setting) (c : Cluster) (event : Event) → IsWhole st c → AreInformed c →
         MayDo st c event → AreInformed (after_event st c event) }
-    ensures course { (st : Setting) (events : List Event) (old new : Cluster) →
+    ensures trace { (st : Setting) (events : List Event) (old new : Cluster) →
         IsSetting st → IsWhole st old → AreInformed old →
-        IsCourse st old events new → AreInformed new }
+        IsTrace st old events new → AreInformed new }
 {}
 
 /// With locks and with colours: a snapshot that comes to a machine is none that is new to it, or
@@ -169,8 +169,8 @@ pub fn locks_know_no_steps()
         HasNoSteps (recovers st base c) }
     ensures goes_on { (st : Setting) (c : Cluster) (event : Event) → st.engine ≡ Locking →
         HasNoSteps c → MayDo st c event → HasNoSteps (after_event st c event) }
-    ensures course { (st : Setting) (events : List Event) (old new : Cluster) →
-        st.engine ≡ Locking → HasNoSteps old → IsCourse st old events new → HasNoSteps new }
+    ensures trace { (st : Setting) (events : List Event) (old new : Cluster) →
+        st.engine ≡ Locking → HasNoSteps old → IsTrace st old events new → HasNoSteps new }
     ensures front { (c : Cluster) (a colour : ℕ) (behind : List Call) → HasNoSteps c →
         c.calls a ≡ Step colour ∷ behind → ⊥ }
 {}

@@ -2,7 +2,7 @@
 ghost use Rattle.std.specs.Prelude.{◌≡◌, ◌⊎◌, ℕ, [], ◌∷◌};
 ghost use Rattle.cluster_laws.specs.cluster_model.Calls.{Want};
 ghost use Rattle.cluster_laws.specs.cluster_model.Clusters.{Cluster};
-ghost use Rattle.cluster_laws.specs.cluster_model.Events.{Admit, Grant, IsCourse, MayDo, entries_in_all, newest_of, recovers};
+ghost use Rattle.cluster_laws.specs.cluster_model.Events.{Admit, Grant, IsTrace, MayDo, entries_in_all, newest_of, recovers};
 ghost use Rattle.cluster_laws.specs.cluster_model.Machines.{outside};
 ghost use Rattle.cluster_laws.specs.cluster_places.Steps.{AreApart};
 ghost use Rattle.whole_laws.specs.cluster_records.LineOfFour.{colour_in_line, first_step, in_first_step, line_base, line_in_colours};
@@ -12,8 +12,8 @@ ghost use Rattle.whole_laws.specs.cluster_records.LonePair.{pair_alone, pair_at_
 /// third may be admitted and no other, and no lock is granted.
 pub fn a_step_of_one_colour()
     ensures colours { AreApart line_in_colours colour_in_line }
-    ensures course { (c : Cluster) →
-        IsCourse line_in_colours (recovers line_in_colours line_base c)
+    ensures trace { (c : Cluster) →
+        IsTrace line_in_colours (recovers line_in_colours line_base c)
         first_step (in_first_step c) }
     ensures offered { (c : Cluster) → MayDo line_in_colours (in_first_step c) (Admit 0 0) ×
         MayDo line_in_colours (in_first_step c) (Admit 1 2) }
@@ -29,11 +29,11 @@ pub fn a_step_of_one_colour()
 /// and the numbers 1 and 2. Once the machine knows that, nothing is outside, and the second vertex
 /// may be admitted.
 pub fn a_snapshot_that_is_asked_for()
-    ensures updates { IsCourse pair_alone pair_at_first pair_updates pair_updated }
+    ensures updates { IsTrace pair_alone pair_at_first pair_updates pair_updated }
     ensures asked { ((pair_updated.machine 0).out ≡ Want 0 ∷ []) ×
         ((pair_updated.machine 0).behind ≡ pair_entry ∷ []) }
     ensures not_now { MayDo pair_alone pair_updated (Admit 0 1) → ⊥ }
-    ensures saves { IsCourse pair_alone pair_updated pair_saves pair_saved }
+    ensures saves { IsTrace pair_alone pair_updated pair_saves pair_saved }
     ensures saved { (entries_in_all pair_alone pair_saved.coordinator.snapshots ≡ pair_entry ∷ [])
         × ((newest_of pair_alone pair_saved.coordinator.snapshots pair_alone.start).vertex 0 ≡ 1)
         × ((newest_of pair_alone pair_saved.coordinator.snapshots pair_alone.start).vertex 1 ≡ 2)

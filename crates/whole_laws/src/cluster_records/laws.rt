@@ -11,7 +11,7 @@ ghost use Rattle.cluster_laws.specs.cluster_core.Replays.{IsTask};
 ghost use Rattle.cluster_laws.specs.cluster_core.Settings.{IsSetting, Setting};
 ghost use Rattle.cluster_laws.specs.cluster_model.ByTicket.{StandByTicket, restarts};
 ghost use Rattle.cluster_laws.specs.cluster_model.Clusters.{BaseView, Cluster, call_way, report_way};
-ghost use Rattle.cluster_laws.specs.cluster_model.Events.{Event, GoesBackTo, IsCourse, MayDo, Section, after_event, entries_in_all, failures_in, recovers, snapshot_numbers};
+ghost use Rattle.cluster_laws.specs.cluster_model.Events.{Event, GoesBackTo, IsTrace, MayDo, Section, after_event, entries_in_all, failures_in, recovers, snapshot_numbers};
 ghost use Rattle.cluster_laws.specs.cluster_model.Leading.{Come, RecordIsDue, Snapshot, acknowledges, entries_in};
 ghost use Rattle.cluster_laws.specs.cluster_model.Machines.{outside};
 ghost use Rattle.cluster_laws.specs.cluster_model.Totals.{total};
@@ -98,7 +98,7 @@ pub fn full_snapshots_hold_all()
 /// coordinator has those that it had, and perhaps more behind them.
 pub fn snapshots_stay()
     ensures { (st : Setting) (events : List Event) (old new : Cluster) →
-        AllByRecursion IsNoRecovery events → IsCourse st old events new →
+        AllByRecursion IsNoRecovery events → IsTrace st old events new →
         (more : List Snapshot) × (new.coordinator.snapshots ≡ old.coordinator.snapshots ++ more) }
 {}
 
@@ -106,7 +106,7 @@ pub fn snapshots_stay()
 /// as it is until a recovery.
 pub fn failed_machines_stop()
     ensures { (st : Setting) (events : List Event) (old new : Cluster) (a : ℕ) →
-        AllByRecursion IsNoRecovery events → IsCourse st old events new →
+        AllByRecursion IsNoRecovery events → IsTrace st old events new →
         (old.machine a).failed ≡ true → new.machine a ≡ old.machine a }
 {}
 
@@ -150,7 +150,7 @@ pub fn calls_have_one_order()
 /// After every list of events, with failures and recoveries among them, the updates of the newest
 /// attempt are accounted for, and it goes on from its base. The first base of a call may be no
 /// order with the start state.
-pub fn courses_keep_accounts()
+pub fn traces_keep_accounts()
     ensures first { (st : Setting) (next : ℕ) →
         IsBase st (record {
           number = 0;
@@ -164,7 +164,7 @@ pub fn courses_keep_accounts()
         × IsBased (going_on st base.numbers base.number) (recovers st base c) [] }
     ensures goes_on { (st : Setting) (events : List Event) (old new : Cluster)
         (whole : IsWhole st old) (logged : List Logged) →
-        IsSetting st → IsCourse st old events new →
+        IsSetting st → IsTrace st old events new →
         IsAccounted st old whole logged → IsBased st old logged →
         (next : IsWhole (setting_behind st events) new) × (now : List Logged)
         × IsAccounted (setting_behind st events) new next now
@@ -209,6 +209,6 @@ pub fn machines_ask_in_time()
 pub fn snapshots_are_few()
     ensures { (st : Setting) (base : BaseView) (c : Cluster) (events : List Event) (new : Cluster) →
         IsSetting st → AreColoured st st.engine → 0 < half_window st →
-        IsCourse (going_on st base.numbers base.number) (recovers st base c) events new →
+        IsTrace (going_on st base.numbers base.number) (recovers st base c) events new →
         snapshots_in_all events + under_way new ≤ c.left / half_window st + unasked_in (going_on st base.numbers base.number) (recovers st base c) events }
 {}

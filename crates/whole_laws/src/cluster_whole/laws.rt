@@ -20,7 +20,7 @@ ghost use Rattle.cluster_laws.specs.cluster_cuts.Goings.{AreUpdatesFrom, HoldCut
 ghost use Rattle.cluster_laws.specs.cluster_model.Calls.{Call, Count, Report, Step, Wave};
 ghost use Rattle.cluster_laws.specs.cluster_model.Clusters.{BaseView, Cluster};
 ghost use Rattle.cluster_laws.specs.cluster_model.Counting.{MayBeCounted};
-ghost use Rattle.cluster_laws.specs.cluster_model.Events.{Event, IsCourse, MayDo, after_event, recovers, setting_after};
+ghost use Rattle.cluster_laws.specs.cluster_model.Events.{Event, IsTrace, MayDo, after_event, recovers, setting_after};
 ghost use Rattle.cluster_laws.specs.cluster_model.Leading.{RecordIsDue};
 ghost use Rattle.cluster_laws.specs.cluster_model.Machines.{outside};
 ghost use Rattle.cluster_laws.specs.cluster_model.Rounds.{StepIsDue};
@@ -54,10 +54,10 @@ pub fn events_keep_clusters_whole()
 {}
 
 /// So does every list of events, with failures and recoveries among them.
-pub fn courses_stay_whole()
+pub fn traces_stay_whole()
     ensures { (st : Setting) (events : List Event) (old new : Cluster) →
         IsSetting st → IsWhole st old →
-        IsCourse st old events new → IsWhole (setting_behind st events) new }
+        IsTrace st old events new → IsWhole (setting_behind st events) new }
 {}
 
 /// Where a cluster is whole, no two ready scopes are near each other, and while word of an update
@@ -141,7 +141,7 @@ pub fn records_hold_cuts()
 /// earlier one.
 pub fn cuts_go_on()
     ensures { (st : Setting) (events : List Event) (old new : Cluster) (whole : IsWhole st old) →
-        IsSetting st → AllByRecursion IsNoRecovery events → IsCourse st old events new →
+        IsSetting st → AllByRecursion IsNoRecovery events → IsTrace st old events new →
         st.base < old.coordinator.begun →
         (next : IsConsistent st (world_of new)) × (rest : List Entry)
         × (next.order ≡ whole.consistent.order ++ rest)

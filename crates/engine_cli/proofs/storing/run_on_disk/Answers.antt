@@ -2,7 +2,7 @@ use Rattle.std.proofs.Common.{IsTrue, ◌∙◌, ◌≡◌, subst}
 use Rattle.job_io.specs.job_config.Views.{job_view}
 use Rattle.job_io.specs.job_stores.JobHeaders.{header_for}
 use Rattle.recovery.specs.Journals.{snapshots_in}
-use Rattle.store.specs.store_format.Stores.{StandsFor}
+use Rattle.store.specs.store_format.Stores.{DecodesTo}
 use Rattle.store.specs.declared.store_format.header.Header.{Header}
 use Rattle.engine_cli.proofs.StoredBy.{IfErr-map, IfOk-two}
 use Rattle.engine_cli.proofs.StoreRuns.{not-on-disk, run-of-header, runs-on-store, why-of-header}
@@ -16,7 +16,7 @@ returns-in-Ok-clause-run g c told =
     let old = g.D.Disk.past c.args.disk in
     let bodies = snapshots_in g.D.Disk.past c.in-Ok.journal in
     let same : c.in-Ok.journal.header ≡ header_for job.fields graph = c.in-Ok.ensures.header.0 ∙ c.header_of-header.ensures.header in
-    let stands : StandsFor (header_for job.fields graph) bodies old.now.seen = subst (λ (h : Header). StandsFor h bodies old.now.seen) c.header_of-header.ensures.header (c.in-Ok.ensures.stands told) in
+    let stands : DecodesTo (header_for job.fields graph) bodies old.now.seen = subst (λ (h : Header). DecodesTo h bodies old.now.seen) c.header_of-header.ensures.header (c.in-Ok.ensures.stands told) in
     rw c.into_disk.ensures
     (IfOk-two c.run_on_journal.result _ _ _
     (λ run fresh from.
@@ -31,10 +31,10 @@ returns-in-Ok-clause-refused g c =
     let cut = c.args.input.now.cut in
     let old = g.D.Disk.past c.args.disk in
     let bodies = snapshots_in g.D.Disk.past c.in-Ok.journal in
-    let T : Type 0 = IsTrue g.D.Disk.told in
+    let T : Type 0 = IsTrue g.D.Disk.observable in
     let same : c.in-Ok.journal.header ≡ header_for job.fields graph = c.in-Ok.ensures.header.0 ∙ c.header_of-header.ensures.header in
-    let stands : T → StandsFor (header_for job.fields graph) bodies old.now.seen =
-    λ told. subst (λ (h : Header). StandsFor h bodies old.now.seen) c.header_of-header.ensures.header (c.in-Ok.ensures.stands told) in
+    let stands : T → DecodesTo (header_for job.fields graph) bodies old.now.seen =
+    λ told. subst (λ (h : Header). DecodesTo h bodies old.now.seen) c.header_of-header.ensures.header (c.in-Ok.ensures.stands told) in
     rw c.into_disk.ensures
     (IfErr-map c.run_on_journal.result _ _
     (λ why refused.

@@ -20,7 +20,7 @@ returns-clause-run g c told =
     run-from job c.args.graph.now c.args.cut.now (g.P.Program.meaning c.args.program) bodies old new c.plan_of.result c.deref.result.now c.args.journal.now.header after.header
     c.run_stored-run.ensures.header c.plan_of.ensures c.deref.ensures.value c.args.saves_end c.args.window c.args.resumed c.args.journal.now.count c.args.journal.now.length run
     (sym c.length-short.ensures.length ∙ c.length-short.ensures.stored told c.requires.well) said.0.0.0 said.0.0.1 said.0.1 said.1.0 said.1.1
-    (full-by g.D.Disk.past (IsTrue g.D.Disk.told) after c.count-stored.result c.length-long.result _ _ c.count-stored.ensures.count c.count-stored.ensures.stored c.length-long.ensures.length c.length-long.ensures.stored told run.end by))
+    (full-by g.D.Disk.past (IsTrue g.D.Disk.observable) after c.count-stored.result c.length-long.result _ _ c.count-stored.ensures.count c.count-stored.ensures.stored c.length-long.ensures.length c.length-long.ensures.stored told run.end by))
     says c.run_stored-run.ensures.by
 
 pub returns-clause-fault : goal.returns-clause-fault
@@ -33,7 +33,7 @@ returns-clause-refused g c =
     let bodies = snapshots_in g.D.Disk.past c.args.journal.now in
     let old = g.D.Disk.past c.args.journal.now.disk in
     let new = g.D.Disk.past c.run_stored-run.new.journal.disk in
-    let short : IsTrue g.D.Disk.told → 65 + records_size bodies ≤ 2 ^ 30 → c.args.journal.now.length ≤ 2 ^ 30 =
+    let short : IsTrue g.D.Disk.observable → 65 + records_size bodies ≤ 2 ^ 30 → c.args.journal.now.length ≤ 2 ^ 30 =
     λ told few. subst (λ (l : ℕ). l ≤ 2 ^ 30) (sym (c.length-short.ensures.stored told c.requires.well) ∙ c.length-short.ensures.length) few in
     IfErr-is c.run_stored-run.result _ _
     (λ fault is refused.

@@ -23,7 +23,7 @@ returns-in-Err-clause-by g c = some_end c.end_without.result _ _ c.end_without.e
 
 pub returns-in-Err-clause-good : goal.returns-in-Err-clause-good
 returns-in-Err-clause-good g c = λ told st start first o at bounds bad is.
-    let later = record c.args.call.now { course = c.go_back-back.new.course; restarts = c.go_back-back.new.restarts; lost = c.go_back-back.new.lost } in
+    let later = record c.args.call.now { trace = c.go_back-back.new.trace; restarts = c.go_back-back.new.restarts; lost = c.go_back-back.new.lost } in
     never_back g.P.Program.meaning g.D.Disk.past c.args.call.now later c.args.journal.now c.go_back-back.new.journal start first st o c.go_back-back.ensures.call.1 (ap (λ j. j.header) c.go_back-back.ensures.kept) c.requires.can.well at bounds
     c.in-Err.ensures.failed c.in-Err.ensures.unlost.1 (ap (λ v. v.items) c.in-Err.ensures.unlost.0) refl c.length-length.result c.length-length.ensures.length (c.length-length.ensures.stored told c.requires.can.well)
     _ _ _ _ _ c.in-Err.why c.length-length.result bad told c.in-Err.ensures.refused (sym c.end_without.ensures.is ∙ is)

@@ -1,7 +1,7 @@
 -- The call goes on from what the store has.
 use Rattle.std.proofs.Common.{ap, length, subst, subst₂, sym, ℕ, ◌∙◌}
 use Rattle.recovery.specs.declared.restarts.restarts.Restarts.{Restarts}
-use Rattle.placed_machines.specs.declared.savers.Places.{Places}
+use Rattle.placed_machines.specs.declared.placing.Places.{Places}
 use Rattle.engine_runs.proofs.Begun.{begun, from_started}
 use Rattle.engine_runs.specs.Calls.{ArePlacesOf, Begins, IsHeaderOf, IsRunAt}
 use Rattle.store.specs.declared.snap_journal.faults.JournalFault.TheVariants.{BadStore}
@@ -12,11 +12,11 @@ pub returns-in-Ok-clause-can : goal.returns-in-Ok-clause-can
 returns-in-Ok-clause-can g c =
     let graph = c.args.graph.now in
     record {
-      places = subst₂ (λ (n : ℕ) (p : Places). ArePlacesOf graph n p) (sym (ap (λ x. length x.now.machines.items) c.call_of.ensures.course ∙ c.in-Ok.ensures.machines)) (sym c.call_of.ensures.places) c.in-Ok.ensures.places.are;
+      places = subst₂ (λ (n : ℕ) (p : Places). ArePlacesOf graph n p) (sym (ap (λ x. length x.now.machines.items) c.call_of.ensures.trace ∙ c.in-Ok.ensures.machines)) (sym c.call_of.ensures.places) c.in-Ok.ensures.places.are;
       header = subst (IsHeaderOf graph) (sym (ap (λ j. j.header) c.in-Ok.ensures.kept)) c.requires.graph;
       restarts = subst (λ (r : Restarts). Begins r.stored.items r.front.items) (sym c.call_of.ensures.restarts) c.in-Ok.ensures.restarts;
       well = c.in-Ok.ensures.well.1;
-      running = ap (λ x. x.now.stopped) c.call_of.ensures.course ∙ c.in-Ok.ensures.runs;
+      running = ap (λ x. x.now.stopped) c.call_of.ensures.trace ∙ c.in-Ok.ensures.runs;
     }
 
 pub returns-in-Ok-clause-begun : goal.returns-in-Ok-clause-begun
@@ -25,9 +25,9 @@ returns-in-Ok-clause-begun g c = λ told st runs good.
     let there : IsRunAt graph (g.P.Program.meaning c.args.program) c.in-Ok.started.places st = subst (λ (p : Places). IsRunAt graph (g.P.Program.meaning c.args.program) p st) c.call_of.ensures.places runs in
     let has = c.in-Ok.ensures.started told st there good in
     begun g.P.Program.meaning g.D.Disk.past c.call_of.result c.args.journal.now c.start_call.new.journal c.args.resumed c.args.plan.run.budget st c.args.failures.now
-    (ap (λ x. x.failures) c.call_of.ensures.course ∙ c.in-Ok.ensures.failures) (c.in-Ok.ensures.past told) (ap (λ j. j.header) c.in-Ok.ensures.kept) good
+    (ap (λ x. x.failures) c.call_of.ensures.trace ∙ c.in-Ok.ensures.failures) (c.in-Ok.ensures.past told) (ap (λ j. j.header) c.in-Ok.ensures.kept) good
     (c.count-stored.ensures.durable told c.in-Ok.ensures.well.0) c.call_of.ensures.lost c.call_of.ensures.snapshots has.opening has.resumed_is has.tickets
-    (from_started g.P.Program.meaning c.in-Ok.started c.call_of.result c.args.journal.now.header _ st has.opening c.call_of.ensures.course c.call_of.ensures.restarts c.call_of.ensures.order has.known)
+    (from_started g.P.Program.meaning c.in-Ok.started c.call_of.result c.args.journal.now.header _ st has.opening c.call_of.ensures.trace c.call_of.ensures.restarts c.call_of.ensures.order has.known)
 
 pub returns-in-Err-clause-good : goal.returns-in-Err-clause-good
 returns-in-Err-clause-good g c = λ told short bad is.

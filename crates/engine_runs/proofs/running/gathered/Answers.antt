@@ -2,8 +2,8 @@
 use Rattle.std.proofs.Common.{All, inr, refl, rules, subst, sym, ◌++◌}
 use Rattle.engine_runs.specs.finish.Gathered.{gathered_lists}
 use Rattle.engine_runs.specs.declared.answers.runs.StoredRun.{StoredRun}
-use Rattle.engine_runs.proofs.Ended.{course_so, gathers, run_so}
-use Rattle.engine_runs.specs.Runs.{HasCourseOf, IsEntryOf, IsRunSo, lists_of}
+use Rattle.engine_runs.proofs.Ended.{trace_so, gathers, run_so}
+use Rattle.engine_runs.specs.Runs.{HasTraceOf, IsEntryOf, IsRunSo, lists_of}
 use Rattle.engine_runs.proofs.running.gathered.Goals as goal
 
 pub returns-in-Ok-clause-run : goal.returns-in-Ok-clause-run
@@ -17,13 +17,13 @@ returns-in-Ok-clause-run g c = λ program header start added st o runs at.
     (c.in-Ok.ensures.gathered st o at.known.was.events at.known.was.cluster at.now (gathers meaning graph program call header start added st o c.args.end runs at))
     (c.calls_end_so.ensures at.paused header start (start ++ added) call.lost.items call.restarts.stored.items call.restarts.front.items call.order.items st o at.known (gathered_lists lists)))
 
-pub returns-in-Ok-clause-course : goal.returns-in-Ok-clause-course
-returns-in-Ok-clause-course g c = λ program header start added st o runs at.
+pub returns-in-Ok-clause-trace : goal.returns-in-Ok-clause-trace
+returns-in-Ok-clause-trace g c = λ program header start added st o runs at.
     let meaning = g.P.Program.meaning in
     let graph = c.args.graph.now in
     let call = c.args.call in
-    subst (λ (r : StoredRun). HasCourseOf c.args.failures.now st o at.known.was.events at.known.was.cluster (lists_of r)) (sym c.run_of.ensures)
-    (course_so meaning graph program call header start added st o c.args.end runs at c.args.failures.now c.requires.failures c.in-Ok.lists
+    subst (λ (r : StoredRun). HasTraceOf c.args.failures.now st o at.known.was.events at.known.was.cluster (lists_of r)) (sym c.run_of.ensures)
+    (trace_so meaning graph program call header start added st o c.args.end runs at c.args.failures.now c.requires.failures c.in-Ok.lists
     (c.in-Ok.ensures.gathered st o at.known.was.events at.known.was.cluster at.now (gathers meaning graph program call header start added st o c.args.end runs at)))
 
 pub returns-in-Ok-clause-entries : goal.returns-in-Ok-clause-entries

@@ -49,7 +49,7 @@ returns-in-Ok-clause-engine g c = λ told.
     sound c.in_ok-call.ensures.places (λ owner other. c.placements_are_one.ensures graph c.args.cut.now c.args.plan.run.machines owner other sound c.requires.plan.machines) (c.in_ok-call.ensures.begun told)
     (c.in-Ok.ensures.call.failures ∙ c.in_ok-call.ensures.failures) (c.in-Ok.ensures.header ∙ c.in_ok-call.ensures.header)
     c.in-Ok.end (lists_of run) (c.in-Ok.ensures.ends told) c.in-Ok.ensures.call.places is)
-    c.gathered.ensures.course
+    c.gathered.ensures.trace
 
 pub returns-in-Ok-clause-placed : goal.returns-in-Ok-clause-placed
 returns-in-Ok-clause-placed g c = ok_then c.gathered.result _ _ (λ run is. (_, c.in_ok-call.ensures.places.placement)) c.gathered.ensures.end

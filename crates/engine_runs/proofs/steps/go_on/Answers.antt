@@ -1,12 +1,12 @@
 -- The course goes on, and what is known of it goes on with it.
 use Rattle.std.proofs.Common.{◌∙◌, ap}
-use Rattle.engine_runs.specs.Calls.{IsEngineSaverOf}
+use Rattle.engine_runs.specs.Calls.{IsAnyMachineOf}
 use Rattle.engine_runs.proofs.stores.Keeping.{passes_known}
 use Rattle.engine_runs.proofs.steps.go_on.Goals as goal
 
 pub returns-clause-known : goal.returns-clause-known
 returns-clause-known g c = λ header start bodies st o known.
-    passes_known (IsEngineSaverOf g.P.Program.meaning) c.args.call.now.course c.drive-pause.new.course header start bodies _ _ _ _ st o
+    passes_known (IsAnyMachineOf g.P.Program.meaning) c.args.call.now.trace c.drive-pause.new.trace header start bodies _ _ _ _ st o
     (record {
       start = c.drive-pause.ensures.same.start ∙ ap (λ (v : _). v.start) c.remember.ensures;
       failures = c.drive-pause.ensures.same.failures ∙ ap (λ (v : _). v.failures) c.remember.ensures;

@@ -7,7 +7,7 @@ abbrev pub invariant-loop : goal.invariant-loop
 invariant-loop g l =
     record {
       can : CanCallGoOn l.graph l.call l.journal;
-      keeps : IsTrue g.D.Disk.told → KeepsCall g.P.Program.meaning g.D.Disk.past l.graph (g.P.Program.meaning l.program) l.fn.call l.fn.journal l.call l.journal;
+      keeps : IsTrue g.D.Disk.observable → KeepsCall g.P.Program.meaning g.D.Disk.past l.graph (g.P.Program.meaning l.program) l.fn.call l.fn.journal l.call l.journal;
       call : IsSameCall l.fn.call l.call;
       short : l.fn.journal.length ≤ 2 ^ 30 → l.journal.length ≤ 2 ^ 30;
       header : l.journal.header ≡ l.fn.journal.header;

@@ -1,6 +1,6 @@
 -- The call goes on to its next pause, and is led on or ended there.
 use Rattle.std.proofs.Common.{subst}
-use Rattle.engine_runs.specs.Calls.{IsEngineSaverOf, PausesSo}
+use Rattle.engine_runs.specs.Calls.{IsAnyMachineOf, PauseMeaning}
 use Rattle.engine_runs.proofs.Pausing.{ends_from, finished, full, on_at, quiet, spent, then_ends, then_keeps}
 use Rattle.engine_runs.proofs.Refusing.{bounds_on}
 use Rattle.engine_runs.proofs.steps.step.Goals as goal
@@ -38,7 +38,7 @@ returns-in-Ended-clause-keeps g c = λ told start first st o runs at.
 pub returns-in-Ended-clause-ends : goal.returns-in-Ended-clause-ends
 returns-in-Ended-clause-ends g c = λ told.
     finished g.P.Program.meaning g.D.Disk.past c.args.graph.now (g.P.Program.meaning c.args.program) c.args.call.now c.go_on.new.call c.args.journal.now c.go_on.ensures.same c.go_on.ensures.attempt c.go_on.ensures.known c.requires.can.well
-    (subst (PausesSo (IsEngineSaverOf g.P.Program.meaning) c.go_on.new.call.course) c.in-Ended.is c.in_ok-go_on.ensures.pause)
+    (subst (PauseMeaning (IsAnyMachineOf g.P.Program.meaning) c.go_on.new.call.trace) c.in-Ended.is c.in_ok-go_on.ensures.pause)
 
 pub returns-in-Quiet-clause-keeps : goal.returns-in-Quiet-clause-keeps
 returns-in-Quiet-clause-keeps g c = λ told start first st o runs at.
@@ -47,7 +47,7 @@ returns-in-Quiet-clause-keeps g c = λ told start first st o runs at.
 pub returns-in-Quiet-clause-ends : goal.returns-in-Quiet-clause-ends
 returns-in-Quiet-clause-ends g c = λ told.
     quiet g.P.Program.meaning g.D.Disk.past c.args.graph.now (g.P.Program.meaning c.args.program) c.args.call.now c.go_on.new.call c.args.journal.now c.go_on.ensures.same c.go_on.ensures.attempt c.go_on.ensures.known c.requires.can.well
-    (c.in_ok-go_on.ensures.unsaved c.in-Quiet.is) (subst (PausesSo (IsEngineSaverOf g.P.Program.meaning) c.go_on.new.call.course) c.in-Quiet.is c.in_ok-go_on.ensures.pause)
+    (c.in_ok-go_on.ensures.unsaved c.in-Quiet.is) (subst (PauseMeaning (IsAnyMachineOf g.P.Program.meaning) c.go_on.new.call.trace) c.in-Quiet.is c.in_ok-go_on.ensures.pause)
 
 pub returns-in-Full-clause-keeps : goal.returns-in-Full-clause-keeps
 returns-in-Full-clause-keeps g c = λ told start first st o runs at.
@@ -57,7 +57,7 @@ pub returns-in-Full-clause-ends : goal.returns-in-Full-clause-ends
 returns-in-Full-clause-ends g c = λ told.
     full g.P.Program.meaning g.D.Disk.past c.args.graph.now (g.P.Program.meaning c.args.program) c.args.call.now c.go_on.new.call c.args.journal.now c.go_on.ensures.same c.go_on.ensures.attempt c.go_on.ensures.known c.requires.can.well
     c.count.result c.length.result (c.count.ensures.stored told c.requires.can.well) (c.length.ensures.stored told c.requires.can.well)
-    (subst (PausesSo (IsEngineSaverOf g.P.Program.meaning) c.go_on.new.call.course) c.in-Full.is c.in_ok-go_on.ensures.pause)
+    (subst (PauseMeaning (IsAnyMachineOf g.P.Program.meaning) c.go_on.new.call.trace) c.in-Full.is c.in_ok-go_on.ensures.pause)
 
 pub returns-in-Spent-clause-keeps : goal.returns-in-Spent-clause-keeps
 returns-in-Spent-clause-keeps g c = λ told start first st o runs at.
@@ -65,7 +65,7 @@ returns-in-Spent-clause-keeps g c = λ told start first st o runs at.
 
 pub returns-in-Spent-clause-ends : goal.returns-in-Spent-clause-ends
 returns-in-Spent-clause-ends g c = λ told.
-    let pauses = subst (PausesSo (IsEngineSaverOf g.P.Program.meaning) c.go_on.new.call.course) c.in-Spent.is c.in_ok-go_on.ensures.pause in
+    let pauses = subst (PauseMeaning (IsAnyMachineOf g.P.Program.meaning) c.go_on.new.call.trace) c.in-Spent.is c.in_ok-go_on.ensures.pause in
     spent g.P.Program.meaning g.D.Disk.past c.args.graph.now (g.P.Program.meaning c.args.program) c.args.call.now c.go_on.new.call c.args.journal.now c.go_on.ensures.same c.go_on.ensures.attempt c.go_on.ensures.known c.requires.can.well
     c.task_left.result pauses (c.task_left.ensures pauses.2)
 

@@ -7,7 +7,7 @@ use Rattle.engine_runs.specs.append.Appends.{AppendFault, DiskPast, Header, IsIn
 use Rattle.engine_runs.specs.declared.append.faults.AppendFault.TheVariants.{DiskFault, Full, NoMemory, NotInForm}
 use Rattle.store.specs.snap_journal.Answers.{IsFullFor}
 use Rattle.store.specs.snap_journal.Disks.{Rose}
-use Rattle.store.specs.snap_journal.Formats.{StandsFor, body_bytes}
+use Rattle.store.specs.snap_journal.Formats.{DecodesTo, body_bytes}
 use Rattle.store.specs.declared.snap_journal.faults.JournalFault.{JournalFault}
 use Rattle.store.specs.declared.snap_journal.faults.JournalFault.TheVariants as fault
 
@@ -21,29 +21,29 @@ pub record HasStored {D : Type 0} (told : Type 0) (past : D → DiskPast) (old n
 -- the bytes stand for these snapshots, or for these and the record, which is in the form of a store of so many
 abbrev pub IsWithRecord : Header → ℕ → List (List ℕ) → Record → List ℕ → Type 0
 IsWithRecord header stored bodies made image =
-    StandsFor header bodies image ⊎ (StandsFor header (bodies ++ body_bytes made ∷ []) image × IsInForm header stored made)
+    DecodesTo header bodies image ⊎ (DecodesTo header (bodies ++ body_bytes made ∷ []) image × IsInForm header stored made)
 
 -- why a record in the form of a store was not put into its journal
-abbrev pub IsWhyNotPut : {D : Type 0} → JournalState D → JournalState D → ℕ → ℕ → Record → AppendFault → Type 0
-IsWhyNotPut old new before now made (Full stored long) =
+abbrev pub PutErrorCause : {D : Type 0} → JournalState D → JournalState D → ℕ → ℕ → Record → AppendFault → Type 0
+PutErrorCause old new before now made (Full stored long) =
     (stored ≡ old.count) × (long ≡ old.length) × (new ≡ old) × IsFullFor old.count old.length (9 + length (body_bytes made))
-IsWhyNotPut old new before now made DiskFault = (new.failed ≡ true) × Rose before now
-IsWhyNotPut old new before now made NotInForm = ⊥
-IsWhyNotPut old new before now made NoMemory = new ≡ old
+PutErrorCause old new before now made DiskFault = (new.failed ≡ true) × Rose before now
+PutErrorCause old new before now made NotInForm = ⊥
+PutErrorCause old new before now made NoMemory = new ≡ old
 
 -- why a record was not put into a journal
-abbrev pub IsWhyNotStored : {D : Type 0} → JournalState D → JournalState D → ℕ → ℕ → Record → AppendFault → Type 0
-IsWhyNotStored old new before now made NotInForm = (new ≡ old) × (IsInForm old.header old.count made → ⊥)
-IsWhyNotStored old new before now made (Full stored long) = IsInForm old.header old.count made × IsWhyNotPut old new before now made (Full stored long)
-IsWhyNotStored old new before now made DiskFault = IsWhyNotPut old new before now made DiskFault
-IsWhyNotStored old new before now made NoMemory = IsWhyNotPut old new before now made NoMemory
+abbrev pub StoreRecordErrorCause : {D : Type 0} → JournalState D → JournalState D → ℕ → ℕ → Record → AppendFault → Type 0
+StoreRecordErrorCause old new before now made NotInForm = (new ≡ old) × (IsInForm old.header old.count made → ⊥)
+StoreRecordErrorCause old new before now made (Full stored long) = IsInForm old.header old.count made × PutErrorCause old new before now made (Full stored long)
+StoreRecordErrorCause old new before now made DiskFault = PutErrorCause old new before now made DiskFault
+StoreRecordErrorCause old new before now made NoMemory = PutErrorCause old new before now made NoMemory
 
 -- why a record has no fold
-abbrev pub IsWhyNoFold : Header → ℕ → Record → AppendFault → Type 0
-IsWhyNoFold header stored made NotInForm = IsInForm header stored made → ⊥
-IsWhyNoFold header stored made (Full count long) = ⊥
-IsWhyNoFold header stored made DiskFault = ⊥
-IsWhyNoFold header stored made NoMemory = ⊤
+abbrev pub FoldErrorCause : Header → ℕ → Record → AppendFault → Type 0
+FoldErrorCause header stored made NotInForm = IsInForm header stored made → ⊥
+FoldErrorCause header stored made (Full count long) = ⊥
+FoldErrorCause header stored made DiskFault = ⊥
+FoldErrorCause header stored made NoMemory = ⊤
 
 -- the faults that come of a journal that had not failed
 abbrev pub IsFaultOfAppend : JournalFault → Type 0

@@ -3,7 +3,7 @@ use Rattle.std.specs.Prelude.{Bool, List, [], false, filter, if◌then◌else◌
 use Rattle.std.specs.declared.alloc.Global.{Global}
 use Rattle.std.specs.declared.vec.Vec.{Vec}
 use Rattle.call_laws.specs.attempts.Entries.{is_restart}
-use Rattle.engine_runs.specs.start.Starting.{AreColoursFor, AreJobFailures, Base, CourseView, EngineSaver, IsCourseNow, IsEngineAsked, IsEngineSaverOf, OpensCall, Setting, first_cluster, opening_from, restart_room, shared_of}
+use Rattle.engine_runs.specs.start.Starting.{AreColoursFor, AreJobFailures, Base, TraceView, AnyMachine, IsTraceNow, IsEngineAsked, IsAnyMachineOf, OpensCall, Setting, first_cluster, opening_from, restart_room, shared_of}
 use Rattle.engine_runs.specs.declared.start.openings.Opening.{Opening}
 use Rattle.coordinator.specs.declared.coord_core.steps.Engine.{Engine}
 use Rattle.coordinator.specs.declared.coord_core.stores.Store.{Store}
@@ -33,12 +33,12 @@ pub record IsOpeningOf (resumed : Bool) (base : Base) (opening : Opening) : Type
   pub front : opening.restarts.front.items ≡ filter is_restart opening.base.order.items
 
 -- why a call begins with nothing: a store of so many snapshots and bytes has no place for so many bytes more, or there was want of memory
-abbrev pub IsWhyNoOpening : ℕ → ℕ → ℕ → JournalFault → Type 0
-IsWhyNoOpening stored length more DiskFault = ⊥
-IsWhyNoOpening stored length more (BadStore fault) = ⊥
-IsWhyNoOpening stored length more (Full count bytes) = (count ≡ stored) × (bytes ≡ length) × (4294967296 ≤ length + more)
-IsWhyNoOpening stored length more Failed = ⊥
-IsWhyNoOpening stored length more NoMemory = ⊤
+abbrev pub OpeningErrorCause : ℕ → ℕ → ℕ → JournalFault → Type 0
+OpeningErrorCause stored length more DiskFault = ⊥
+OpeningErrorCause stored length more (BadStore fault) = ⊥
+OpeningErrorCause stored length more (Full count bytes) = (count ≡ stored) × (bytes ≡ length) × (4294967296 ≤ length + more)
+OpeningErrorCause stored length more Failed = ⊥
+OpeningErrorCause stored length more NoMemory = ⊤
 
 -- the base with this order
 abbrev pub base_with : Vec Entry Global → Base → Base
@@ -53,9 +53,9 @@ pub record CanOpenWith (st : Setting) (failures : List FailureAt) (resumed : Boo
   pub few : next + budget < 2 ^ 64
 
 -- The course has opened so, and nothing has happened yet.
-pub record OpensWith {P : Type 0} (meaning : P → Update) (v : CourseView (EngineSaver P)) (st : Setting) (resumed : Bool) (base : Base) (budget : ℕ) : Type 0 where
-  pub opens : OpensCall (IsEngineSaverOf meaning) v.start v.failures st (opening_from st resumed base budget)
-  pub now : IsCourseNow (IsEngineSaverOf meaning) v st (opening_from st resumed base budget) [] (first_cluster st (opening_from st resumed base budget))
+pub record OpensWith {P : Type 0} (meaning : P → Update) (v : TraceView (AnyMachine P)) (st : Setting) (resumed : Bool) (base : Base) (budget : ℕ) : Type 0 where
+  pub opens : OpensCall (IsAnyMachineOf meaning) v.start v.failures st (opening_from st resumed base budget)
+  pub now : IsTraceNow (IsAnyMachineOf meaning) v st (opening_from st resumed base budget) [] (first_cluster st (opening_from st resumed base budget))
 
 -- the store that a coordinator knows is that of this base of a graph
 pub record IsStoreOf (g : DataGraph) (base : Base) (store : Store) : Type 0 where

@@ -2,7 +2,7 @@ use Rattle.std.proofs.Common.{Some, arith}
 use Rattle.std.proofs.lemmas.Result.{IfOk-weaker}
 use Rattle.placement.proofs.places.NewLemmas.{few_here, low_here}
 use Rattle.placement.proofs.places.PlaceLemmas.{first_places}
-use Rattle.placed_machines.specs.Inner.Making.{IsEngineSaverOf, goes_back, with_locking}
+use Rattle.placed_machines.specs.Inner.Making.{IsAnyMachineOf, goes_back, with_locking}
 use Rattle.placed_machines.specs.Inner.Members.{IsNewMember}
 use Rattle.placed_machines.proofs.MemberLemmas.{begins_locked, fits_first, fresh_first, member_first}
 use Rattle.placed_machines.proofs.machines.new_saver.Goals as goal
@@ -50,7 +50,7 @@ pub returns : goal.returns
 returns g c = λ st m saves unset serial.
     let places = c.args.places.now in
     IfOk-weaker c.new_member.result (IsNewMember places.run.engine places.colours.items places.run.window c.in_ok-machine.machine)
-    (IsEngineSaverOf g.P.Program.meaning st c.args.local.me.0 (goes_back st st.start st.base c.args.local.me.0 m))
+    (IsAnyMachineOf g.P.Program.meaning st c.args.local.me.0 (goes_back st st.start st.base c.args.local.me.0 m))
     (λ x new.
     member_first st places.run.window c.args.terms c.args.local.me.0 c.in_ok-numbers.numbers c.in_ok-core.core saves.goes
     (c.in_ok-numbers.ensures.numbers (with_locking st) unset (begins_locked st c.args.base.now saves.begins)) (c.in_ok-numbers.ensures.part (with_locking st) unset) c.in_ok-numbers.ensures.tasks c.in_ok-core.ensures

@@ -20,7 +20,7 @@ use Rattle.local_graph.specs.declared.sides.Side.{Side}
 use Rattle.task_sets.specs.task_sched.Tasks.{TasksView}
 use Rattle.partition.specs.declared.machine_numbers.keeping.Numbers.{Numbers}
 use Rattle.partition.specs.machine_numbers.Steps.{IsSideHere}
-use Rattle.partition.specs.machine_numbers.Views.{is_named}
+use Rattle.partition.specs.machine_numbers.Views.{is_in_update}
 use Rattle.machine_core.specs.declared.machine_parts.cores.Core.{Core}
 use Rattle.machine_core.specs.machine_parts.Settings.{Setting, IsPartOf}
 use Rattle.snapshot_machines.specs.marking.Keeping.{Part, SnapView, part_of, with_snaps}
@@ -112,7 +112,7 @@ HasOtherFlags old new = new ≡ record old { pending = new.pending; asked = new.
 -- v has the mark of snapshot k and is not admitted any more, and its own ends without the mark are pending
 pub record HasMarkedNumber (old new : Numbers) (v : Vertex) (k : ℕ) : Type 0 where
   pub datum : (u : ℕ) → datum_here new u ≡ set_at (datum_here old) v.0 (with_mark k (datum_here old v.0)) u
-  pub pending : (u : ℕ) → pending_here new u ≡ (is_named (ends_left old k old.local.me.0 (sides_at old.local v.0)) u || (pending_here old u && not (u == v.0)))
+  pub pending : (u : ℕ) → pending_here new u ≡ (is_in_update (ends_left old k old.local.me.0 (sides_at old.local v.0)) u || (pending_here old u && not (u == v.0)))
   pub admitted : (place : ℕ) → place_at old.local v.0 ≡ Some place → new.tasks.admitted ≡ slice_set old.tasks.admitted place false
   pub plans : (place : ℕ) → place_at old.local v.0 ≡ Some place → HasUnplanned old.tasks new.tasks place
   pub own : (x : ℕ) → is_own new.local x ≡ is_own old.local x

@@ -14,12 +14,12 @@ pub record IsFilled (seen : List ℕ) (at : ℕ) (buf : List ℕ) (count : ℕ) 
   pub all : count ≡ min (length buf) (length seen - at)
 
 -- why bytes were not read
-abbrev pub IsWhyUnread : ℕ → ℕ → JournalFault → Type 0
-IsWhyUnread before now DiskFault = Rose before now
-IsWhyUnread before now (BadStore fault) = ⊥
-IsWhyUnread before now (Full stored bytes) = ⊥
-IsWhyUnread before now Failed = ⊥
-IsWhyUnread before now NoMemory = ⊤
+abbrev pub ReadErrorCause : ℕ → ℕ → JournalFault → Type 0
+ReadErrorCause before now DiskFault = Rose before now
+ReadErrorCause before now (BadStore fault) = ⊥
+ReadErrorCause before now (Full stored bytes) = ⊥
+ReadErrorCause before now Failed = ⊥
+ReadErrorCause before now NoMemory = ⊤
 
 -- these bytes begin with an open gate and this length, which is that of a body with the entries that are counted there, and the
 -- body and the next gate are there
@@ -42,19 +42,19 @@ IsNextBody header number at seen body true =
     ≡ with_body body (bodies_from header (number + 1) (at + (9 + length body)) 0 (drop (at + (9 + length body)) seen))
 
 -- why a store was not read on from this place
-abbrev pub IsWhyNot : Type 0 → Header → ℕ → ℕ → List ℕ → ℕ → ℕ → JournalFault → Type 0
-IsWhyNot told header number at seen before now DiskFault = Rose before now
-IsWhyNot told header number at seen before now (BadStore fault) = told → bodies_from header number at 0 (drop at seen) ≡ Err fault
-IsWhyNot told header number at seen before now (Full stored bytes) = ⊥
-IsWhyNot told header number at seen before now Failed = ⊥
-IsWhyNot told header number at seen before now NoMemory = ⊤
+abbrev pub NextBodyErrorCause : Type 0 → Header → ℕ → ℕ → List ℕ → ℕ → ℕ → JournalFault → Type 0
+NextBodyErrorCause told header number at seen before now DiskFault = Rose before now
+NextBodyErrorCause told header number at seen before now (BadStore fault) = told → bodies_from header number at 0 (drop at seen) ≡ Err fault
+NextBodyErrorCause told header number at seen before now (Full stored bytes) = ⊥
+NextBodyErrorCause told header number at seen before now Failed = ⊥
+NextBodyErrorCause told header number at seen before now NoMemory = ⊤
 
 -- why bytes that were read as a body of this length, behind the gate at this place, are none
-abbrev pub IsWhyBad : Header → ℕ → ℕ → ℕ → List ℕ → JournalFault → Type 0
-IsWhyBad header number at size body DiskFault = ⊥
-IsWhyBad header number at size body (BadStore fault) =
+abbrev pub BodyErrorCause : Header → ℕ → ℕ → ℕ → List ℕ → JournalFault → Type 0
+BodyErrorCause header number at size body DiskFault = ⊥
+BodyErrorCause header number at size body (BadStore fault) =
     (seen : List ℕ) → HasLength header (drop at seen) size → body ≡ take size (drop (at + 9) seen)
     → bodies_from header number at 0 (drop at seen) ≡ Err fault
-IsWhyBad header number at size body (Full stored bytes) = ⊥
-IsWhyBad header number at size body Failed = ⊥
-IsWhyBad header number at size body NoMemory = ⊤
+BodyErrorCause header number at size body (Full stored bytes) = ⊥
+BodyErrorCause header number at size body Failed = ⊥
+BodyErrorCause header number at size body NoMemory = ⊤

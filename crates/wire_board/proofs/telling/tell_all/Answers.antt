@@ -4,7 +4,7 @@ use Rattle.wire_board.proofs.HearingOn.{next_told, none_told}
 use Rattle.wire_board.proofs.telling.tell_all.Goals as goal
 
 pub loop-init : goal.loop-init
-loop-init g c = ([], sym (append-nil c.args.queue.now.messages), none_told g.M.SavingMachine.stands c.args.to.0 c.args.machine.now)
+loop-init g c = ([], sym (append-nil c.args.queue.now.messages), none_told g.M.SavingMachine.represents c.args.to.0 c.args.machine.now)
 
 pub loop-preserved : goal.loop-preserved
 loop-preserved g c =
@@ -12,5 +12,5 @@ loop-preserved g c =
     let message = c.in-Some.message in (
       old.0 ++ message_view message ∷ [],
       c.push.ensures ∙ ap (λ (ms : List MessageView). ms ++ message_view message ∷ []) (c.reserve.ensures.same ∙ old.1) ∙ append_assoc c.args.queue.now.messages old.0 (message_view message ∷ []),
-      next_told g.M.SavingMachine.stands c.args.to.0 c.args.machine.now old.0 c.loop.machine old.2 message c.outbox_take.new.self c.in-Some.ensures.taken,
+      next_told g.M.SavingMachine.represents c.args.to.0 c.args.machine.now old.0 c.loop.machine old.2 message c.outbox_take.new.self c.in-Some.ensures.taken,
     )

@@ -1,9 +1,9 @@
 -- By computation.
-use Rattle.call_laws.proofs.each_saved_once.WorkedEdge.{brings_one, is_course, is_due, one_drawn, saved_by_one}
+use Rattle.call_laws.proofs.each_saved_once.WorkedEdge.{brings_one, is_trace, is_due, one_drawn, saved_by_one}
 use Rattle.call_laws.proofs.each_saved_once.examples.an_edge_in_one_section.Goals as goal
 
 pub returns-clause-premises : goal.returns-clause-premises
-returns-clause-premises c = is_course
+returns-clause-premises c = is_trace
 
 pub returns-clause-due : goal.returns-clause-due
 returns-clause-due c = is_due

@@ -1,9 +1,9 @@
 -- By computation.
-use Rattle.call_laws.proofs.whole_calls.WorkedPair.{counts_then, failed_then, is_course, reached_two, recorded_once}
+use Rattle.call_laws.proofs.whole_calls.WorkedPair.{counts_then, failed_then, is_trace, reached_two, recorded_once}
 use Rattle.call_laws.proofs.whole_calls.examples.a_call_that_goes_back.Goals as goal
 
 pub returns-clause-premises : goal.returns-clause-premises
-returns-clause-premises c = is_course
+returns-clause-premises c = is_trace
 
 pub returns-clause-recorded : goal.returns-clause-recorded
 returns-clause-recorded c = recorded_once

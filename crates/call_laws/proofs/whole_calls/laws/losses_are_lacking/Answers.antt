@@ -3,5 +3,5 @@ use Rattle.call_laws.proofs.whole_calls.Calling.{the_losses}
 use Rattle.call_laws.proofs.whole_calls.laws.losses_are_lacking.Goals as goal
 
 pub returns : goal.returns
-returns c = λ st failures kept resumed base first events cluster to merged course back merges.
-    the_losses st failures kept resumed base first events cluster course to merged back merges
+returns c = λ st failures kept resumed base first events cluster to merged trace back merges.
+    the_losses st failures kept resumed base first events cluster trace to merged back merges

@@ -3,4 +3,4 @@ use Rattle.cluster_step.proofs.clusters.Ordering.{good_bases}
 use Rattle.cluster_step.proofs.clusters.laws.bases_stay_good.Goals as goal
 
 pub returns : goal.returns
-returns c = λ st base first own events is coloured its course. good_bases st base first own events is coloured its course
+returns c = λ st base first own events is coloured its trace. good_bases st base first own events is coloured its trace

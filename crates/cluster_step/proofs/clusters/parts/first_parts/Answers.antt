@@ -16,5 +16,5 @@ returns-clause-began g c =
     subst (λ (n : ℕ). IsFirstWith n c.args.engine (store_view c.args.store) c.in_ok-coordinator.coordinator) (search rules) c.in_ok-coordinator.ensures in
     let same : c.len-many.result ≡ length c.args.machines.items = search rules in
     λ st base before start.
-    begun_first g.M.SavingMachine.stands _ c.args.engine (store_view c.args.store) c.args.next c.args.left have c.in_ok-links.ensures.none c.requires.few c.requires.many leads
+    begun_first g.M.SavingMachine.represents _ c.args.engine (store_view c.args.store) c.args.next c.args.left have c.in_ok-links.ensures.none c.requires.few c.requires.many leads
     (all_false c.in_ok-failed.failed c.len-many.result c.in_ok-failed.ensures) (so_many c.in_ok-failed.failed c.len-many.result c.in_ok-failed.ensures ∙ same) refl refl refl st base before start

@@ -5,6 +5,6 @@ use Rattle.cluster_step.proofs.drive.asking.is_full.Goals as goal
 pub returns : goal.returns
 returns g c = λ yes st o events x is call makes.
     let seen = c.coordinator-coordinator.result.now in
-    let own = c.args.course.now.now.coordinator in
-    needs_more g.M.SavingMachine.stands c.args.course.now st o events x is call makes
+    let own = c.args.trace.now.now.coordinator in
+    needs_more g.M.SavingMachine.represents c.args.trace.now st o events x is call makes
     (many_seen seen own c.coordinator-coordinator.ensures c.stored.result c.stored.ensures c.if-stored-lt-MAX_SNAPSHOTS.false) (one_under seen own c.coordinator-coordinator.ensures c.is_under_way.result c.is_under_way.ensures yes)

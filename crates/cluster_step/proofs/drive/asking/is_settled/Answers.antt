@@ -4,5 +4,5 @@ use Rattle.cluster_step.proofs.drive.asking.is_settled.Goals as goal
 
 pub returns-in_default : goal.returns-in_default
 returns-in_default g c = λ yes st o events x is.
-    settled g.M.SavingMachine.stands c.args.course.now st o events x is c.due.result c.due.ensures.due c.in_default.not-Snapshot
-    (none_under c.coordinator.result.now c.args.course.now.now.coordinator c.coordinator.ensures c.is_under_way.result c.is_under_way.ensures yes)
+    settled g.M.SavingMachine.represents c.args.trace.now st o events x is c.due.result c.due.ensures.due c.in_default.not-Snapshot
+    (none_under c.coordinator.result.now c.args.trace.now.now.coordinator c.coordinator.ensures c.is_under_way.result c.is_under_way.ensures yes)

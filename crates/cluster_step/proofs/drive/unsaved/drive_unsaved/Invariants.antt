@@ -2,4 +2,4 @@ use Rattle.cluster_step.specs.drive.Pauses.{IsSameAttempt}
 use Rattle.cluster_step.proofs.drive.unsaved.drive_unsaved.Given as goal
 
 abbrev pub invariant-loop : goal.invariant-loop
-invariant-loop g l = IsSameAttempt l.fn.course l.course
+invariant-loop g l = IsSameAttempt l.fn.trace l.trace

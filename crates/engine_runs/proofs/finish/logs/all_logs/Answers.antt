@@ -13,5 +13,5 @@ loop-m-preserved g c = λ st o events x is.
 
 pub returns : goal.returns
 returns g c = λ st o events x is.
-    let end : c.loop-m.m ≡ length c.args.course.now.now.machines.items = omega (arith, c.machines-m-end.ensures.count, c.loop-m-test.false) in
-    c.loop-m.invariant st o events x is ∙ ap (λ (n : ℕ). all_logged (machine_logs n x)) (end ∙ machines_are g.M.SavingMachine.stands c.args.course.now st o events x is)
+    let end : c.loop-m.m ≡ length c.args.trace.now.now.machines.items = omega (arith, c.machines-m-end.ensures.count, c.loop-m-test.false) in
+    c.loop-m.invariant st o events x is ∙ ap (λ (n : ℕ). all_logged (machine_logs n x)) (end ∙ machines_are g.M.SavingMachine.represents c.args.trace.now st o events x is)

@@ -1,6 +1,6 @@
 use Rattle.std.proofs.Common.{◌≡◌}
-use Rattle.engine_runs.specs.finish.Gathered.{InEachCourse, all_logged, machine_logs}
+use Rattle.engine_runs.specs.finish.Gathered.{InEachTrace, all_logged, machine_logs}
 use Rattle.engine_runs.proofs.finish.logs.all_logs.Given as goal
 
 abbrev pub invariant-loop-m : goal.invariant-loop-m
-invariant-loop-m g l = InEachCourse g.M.SavingMachine.stands l.course (λ st o events c. l.all.items ≡ all_logged (machine_logs l.m c))
+invariant-loop-m g l = InEachTrace g.M.SavingMachine.represents l.trace (λ st o events c. l.all.items ≡ all_logged (machine_logs l.m c))

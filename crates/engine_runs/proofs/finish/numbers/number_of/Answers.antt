@@ -3,7 +3,7 @@ use Rattle.std.proofs.Common.{◌≡◌, ℕ, ◌<◌, ◌∙◌, ap, length, su
 use Rattle.gl_base.specs.declared.numbers.AtomNo.{AtomNo}
 use Rattle.gl_base.specs.declared.scopes.Datum.{Datum}
 use Rattle.engine_runs.proofs.finish.SaverLemmas.{number_in, placed_at}
-use Rattle.engine_runs.specs.finish.Gathered.{IsEngineSaverOf, placed_owner}
+use Rattle.engine_runs.specs.finish.Gathered.{IsAnyMachineOf, placed_owner}
 use Rattle.partition.specs.machine_numbers.Views.{datum_here}
 use Rattle.machine_core.specs.declared.machine_parts.cores.Core.{Core}
 use Rattle.engine_runs.proofs.finish.numbers.number_of.Given as given
@@ -19,4 +19,4 @@ owner_at g c =
 pub returns : goal.returns
 returns g c = λ st o events x now low owned.
     ap (λ (d : Datum). d.value) (c.datum.ensures ∙ ap (λ (k : Core). datum_here k.numbers c.args.v.0) c.core_of-core.ensures.parts)
-    ∙ number_in (IsEngineSaverOf g.P.Program.meaning) c.args.course.now st o events x now g.P.Program.meaning c.index-owner.result.now.0 c.machine.result.now (c.machine.ensures st o events x now) c.args.v.0 low (owned ∙ owner_at g c)
+    ∙ number_in (IsAnyMachineOf g.P.Program.meaning) c.args.trace.now st o events x now g.P.Program.meaning c.index-owner.result.now.0 c.machine.result.now (c.machine.ensures st o events x now) c.args.v.0 low (owned ∙ owner_at g c)

@@ -2,13 +2,13 @@
 use Rattle.std.proofs.Common.{◌≡◌, ℕ, suc, ◌+◌, ◌<◌, ◌++◌, [], ◌∷◌, ◌∙◌, add-one, ap, arith, length, length-append, subst, sym}
 use Rattle.std.specs.Prelude.{slice_index_or}
 use Rattle.cluster_step.proofs.trace.Calling.{grown}
-use Rattle.engine_runs.specs.finish.Gathered.{InEachCourse, IsEngineSaverOf, placed_owner}
+use Rattle.engine_runs.specs.finish.Gathered.{InEachTrace, IsAnyMachineOf, placed_owner}
 use Rattle.graph_core.specs.DataGraph.{size}
 use Rattle.engine_runs.proofs.finish.numbers.vertex_numbers.Given as given
 use Rattle.engine_runs.proofs.finish.numbers.vertex_numbers.Goals as goal
 
 abbrev Numbered : (g : given.Over) (c : goal.After-push_reserved g) → ℕ → ℕ → Type 0
-Numbered g c u n = InEachCourse (IsEngineSaverOf g.P.Program.meaning) c.args.course.now (λ st o events x.
+Numbered g c u n = InEachTrace (IsAnyMachineOf g.P.Program.meaning) c.args.trace.now (λ st o events x.
     u < size st.graph → st.owner u ≡ placed_owner c.args.places.now.of.items c.args.places.now.owner.items u → n ≡ ((x.machine (st.owner u)).part.datum u).value)
 
 -- the numbers so far and the vertex's

@@ -7,7 +7,7 @@ use Rattle.store.specs.snap_journal.Journals.{snapshots_in}
 use Rattle.engine_runs.proofs.rollback.Attempts.{goes_so}
 use Rattle.engine_runs.proofs.rollback.Refusals.{is_full, no_place}
 use Rattle.engine_runs.proofs.rollback.Restarted.{begins_kept}
-use Rattle.engine_runs.specs.rollback.Returning.{Begins, GoesBackSo, IsBaseBehind, IsEngineSaverOf, is_restart, restarts}
+use Rattle.engine_runs.specs.rollback.Returning.{Begins, RestartsFrom, IsBaseBehind, IsAnyMachineOf, is_restart, restarts}
 use Rattle.engine_runs.proofs.rollback.next_attempts.next_attempt.Goals as goal
 
 pub missing_restarts-requires : goal.missing_restarts-requires
@@ -17,8 +17,8 @@ missing_restarts-requires g c =
 
 pub returns-in-Err-store_behind-clause-refused : goal.returns-in-Err-store_behind-clause-refused
 returns-in-Err-store_behind-clause-refused g c =
-    is_full _ _ _ _ _ _ c.in-Ok.base.number c.args.course.now.now.coordinator.saving.store_end _ c.in-Err-store_behind.ensures.full.0
-    (no_place (IsEngineSaverOf g.P.Program.meaning) c.args.course.now c.in_ok-failures.failures c.in_ok-failures.ensures c.in-Err-store_behind.ensures.full.1) c.in-Ok.ensures.well.0 c.in-Ok.ensures.well.1
+    is_full _ _ _ _ _ _ c.in-Ok.base.number c.args.trace.now.now.coordinator.saving.store_end _ c.in-Err-store_behind.ensures.full.0
+    (no_place (IsAnyMachineOf g.P.Program.meaning) c.args.trace.now c.in_ok-failures.failures c.in_ok-failures.ensures c.in-Err-store_behind.ensures.full.1) c.in-Ok.ensures.well.0 c.in-Ok.ensures.well.1
 
 pub returns-clause-start : goal.returns-clause-start
 returns-clause-start g c =
@@ -33,7 +33,7 @@ returns-clause-back g c = λ told start order st o runs known has.
     let bodies = snapshots_in g.D.Disk.past c.args.journal.now in
     let failures = c.in_ok-failures.failures in
     let missing = c.in_ok-missing.missing.items in
-    let shared = shared_of st c.args.course.now.failures in
+    let shared = shared_of st c.args.trace.now.failures in
     let lacks : filter is_restart c.args.restarts.now.stored.items ++ missing ≡ filter is_restart c.args.restarts.now.front.items ++ restarts failures c.next.result =
     subst (λ (es : List Entry). filter is_restart es ++ missing ≡ filter is_restart c.args.restarts.now.front.items ++ restarts failures c.next.result) c.deref.ensures.value
     (subst (λ (es : List Entry). filter is_restart c.deref.result.now ++ missing ≡ filter is_restart es ++ restarts failures c.next.result) c.deref-2.ensures.value c.in_ok-missing.ensures.lacks) in
@@ -41,8 +41,8 @@ returns-clause-back g c = λ told start order st o runs known has.
     subst (λ (es : List Entry). IsBaseBehind shared header bodies es c.in-Ok.base) c.deref-3.ensures.value (c.in-Ok.ensures.base told shared runs.placed.graph runs.program_is known.was.keeps.good) in
     let next = c.in-Ok-attempt_from.next in
     let lost = c.in-Ok-attempt_from.ensures.lost in
-    subst (λ (es : List Entry). GoesBackSo meaning c.args.course.now next.machines.items c.args.places.now.run.engine (store_view next.store) es c.args.lost.now next.lost.items c.args.restarts.now.front.items next.front.items st o known.was.events known.was.cluster) (sym c.in-Ok-attempt_from.ensures.order)
-    (goes_so meaning c.args.graph.now (meaning c.args.program) c.args.places.now c.args.course.now header start bodies c.args.lost.now c.args.restarts.now.stored.items c.args.restarts.now.front.items order st o runs known has failures c.next.result
+    subst (λ (es : List Entry). RestartsFrom meaning c.args.trace.now next.machines.items c.args.places.now.run.engine (store_view next.store) es c.args.lost.now next.lost.items c.args.restarts.now.front.items next.front.items st o known.was.events known.was.cluster) (sym c.in-Ok-attempt_from.ensures.order)
+    (goes_so meaning c.args.graph.now (meaning c.args.program) c.args.places.now c.args.trace.now header start bodies c.args.lost.now c.args.restarts.now.stored.items c.args.restarts.now.front.items order st o runs known has failures c.next.result
     (c.in_ok-failures.ensures st o known.was.events known.was.cluster known.was.now) (c.next.ensures st o known.was.events known.was.cluster known.was.now) missing c.in_ok-missing.ensures.alone lacks c.in-Ok.base behind next.machines.items
     (λ to. c.in-Ok-attempt_from.ensures.stand st o known.was.events known.was.cluster known.was.now to) (store_view next.store) (ap (λ s. s.vertices) c.in-Ok-attempt_from.ensures.store ∙ c.in-Ok-store_behind.ensures.vertices)
     (ap (λ s. s.edges) c.in-Ok-attempt_from.ensures.store ∙ c.in-Ok-store_behind.ensures.edges) (ap (λ s. s.newest) c.in-Ok-attempt_from.ensures.store ∙ c.in-Ok-store_behind.ensures.newest) (ap (λ s. s.length) c.in-Ok-attempt_from.ensures.store ∙ c.in-Ok-store_behind.ensures.place)

@@ -1,13 +1,13 @@
 -- One machine more.
 use Rattle.std.proofs.Common.{◌≡◌, Bool, ℕ, suc, ◌+◌, ◌<◌, ◌++◌, [], ◌∷◌, ◌∙◌, add-one, ap, arith, false, length, length-append, subst, sym}
 use Rattle.std.specs.Prelude.{slice_index_or}
-use Rattle.engine_runs.specs.rollback.Failing.{InEachCourse}
+use Rattle.engine_runs.specs.rollback.Failing.{InEachTrace}
 use Rattle.engine_runs.proofs.rollback.Failings.{grown}
 use Rattle.engine_runs.proofs.rollback.reading.failed_flags.Given as given
 use Rattle.engine_runs.proofs.rollback.reading.failed_flags.Goals as goal
 
 abbrev Read : (g : given.Over) (c : goal.After-push_reserved g) → ℕ → Bool → Type 0
-Read g c a n = InEachCourse g.M.SavingMachine.stands c.args.course.now (λ st o events x. n ≡ (x.machine a).failed)
+Read g c a n = InEachTrace g.M.SavingMachine.represents c.args.trace.now (λ st o events x. n ≡ (x.machine a).failed)
 
 here : (g : given.Over) (c : goal.After-push_reserved g) → Read g c c.loop-m.m c.has_failed.result
 here g c = c.has_failed.ensures
@@ -24,7 +24,7 @@ loop-m-preserved g c =
       each = λ a low. subst (λ xs. Read g c a (slice_index_or xs a false)) (sym c.push_reserved.ensures.items) (more g c a (subst (λ n. a < n) (add-one c.loop-m.m ∙ ap suc (sym c.loop-m.invariant.many)) low));
     }
 
-below : (g : given.Over) (c : goal.After-loop-m g) (a : ℕ) → a < length c.args.course.now.now.machines.items → a < c.loop-m.m
+below : (g : given.Over) (c : goal.After-loop-m g) (a : ℕ) → a < length c.args.trace.now.now.machines.items → a < c.loop-m.m
 below g c a low = omega (arith, c.machines-many.ensures.count, c.loop-m-test.false)
 
 pub returns-clause-each : goal.returns-clause-each

@@ -1,14 +1,14 @@
 -- One machine more.
 use Rattle.std.proofs.Common.{◌≡◌, ℕ, suc, ◌+◌, ◌<◌, ◌++◌, [], ◌∷◌, ◌∙◌, add-one, ap, arith, length, length-append, rules, subst, sym}
 use Rattle.std.specs.Prelude.{slice_index_or}
-use Rattle.engine_runs.specs.rollback.Failing.{InEachCourse, newest_setting}
+use Rattle.engine_runs.specs.rollback.Failing.{InEachTrace, newest_setting}
 use Rattle.engine_runs.proofs.rollback.Failings.{grown}
 use Rattle.engine_runs.proofs.rollback.reading.serials.Given as given
 use Rattle.engine_runs.proofs.rollback.reading.serials.Goals as goal
 use Rattle.cluster_step.proofs.trace.Going.{setting_now}
 
 abbrev Read : (g : given.Over) (c : goal.After-push_reserved g) → ℕ → ℕ → Type 0
-Read g c a n = InEachCourse g.M.SavingMachine.stands c.args.course.now (λ st o events x. n ≡ (x.machine a).part.serial)
+Read g c a n = InEachTrace g.M.SavingMachine.represents c.args.trace.now (λ st o events x. n ≡ (x.machine a).part.serial)
 
 here : (g : given.Over) (c : goal.After-push_reserved g) → Read g c c.loop-m.m c.serial.result
 here g c = λ st o events x is. c.serial.ensures (newest_setting st o events) c.loop-m.m (x.machine c.loop-m.m) (setting_now st o events is.setting) (c.machine.ensures st o events x is)
@@ -26,7 +26,7 @@ loop-m-preserved g c =
       each = λ a low. subst (λ xs. Read g c a (slice_index_or xs a 0)) (sym c.push_reserved.ensures.items) (more g c a (subst (λ n. a < n) (add-one c.loop-m.m ∙ ap suc (sym c.loop-m.invariant.many)) low));
     }
 
-below : (g : given.Over) (c : goal.After-loop-m g) (a : ℕ) → a < length c.args.course.now.now.machines.items → a < c.loop-m.m
+below : (g : given.Over) (c : goal.After-loop-m g) (a : ℕ) → a < length c.args.trace.now.now.machines.items → a < c.loop-m.m
 below g c a low = omega (arith, c.machines-many.ensures.count, c.loop-m-test.false)
 
 pub returns-clause-each : goal.returns-clause-each

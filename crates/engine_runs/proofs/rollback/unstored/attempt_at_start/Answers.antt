@@ -5,7 +5,7 @@ use Rattle.coordinator.specs.coord_core.Stores.{store_view}
 use Rattle.engine_runs.proofs.rollback.Attempts.{goes_so}
 use Rattle.engine_runs.proofs.rollback.FromStart.{near}
 use Rattle.engine_runs.proofs.rollback.Restarted.{begins_kept}
-use Rattle.engine_runs.specs.rollback.Returning.{Begins, GoesBackSo, IsBaseBehind, is_restart, restarts}
+use Rattle.engine_runs.specs.rollback.Returning.{Begins, RestartsFrom, IsBaseBehind, is_restart, restarts}
 use Rattle.engine_runs.specs.unstored.Inner.Going.{AreRestartsAlone}
 use Rattle.gl_base.specs.declared.entries.Entry.{Entry}
 use Rattle.engine_runs.proofs.rollback.unstored.attempt_at_start.Goals as goal
@@ -28,13 +28,13 @@ returns-clause-alone g c =
 pub returns-clause-back : goal.returns-clause-back
 returns-clause-back g c = λ header order st o of runs known has.
     let meaning = g.P.Program.meaning in
-    let course = c.args.course.now in
+    let trace = c.args.trace.now in
     let lost_now = c.args.lost.now in
     let stored = c.args.restarts.now.stored.items in
     let front = c.args.restarts.now.front.items in
     let failures = c.in_ok-failures.failures in
     let missing = c.in_ok-missing.missing.items in
-    let shared = shared_of st course.failures in
+    let shared = shared_of st trace.failures in
     let lacks : filter is_restart stored ++ missing ≡ filter is_restart front ++ restarts failures c.next.result =
     subst (λ (es : List Entry). filter is_restart es ++ missing ≡ filter is_restart front ++ restarts failures c.next.result) c.deref.ensures.value
     (subst (λ (es : List Entry). filter is_restart c.deref.result.now ++ missing ≡ filter is_restart es ++ restarts failures c.next.result) c.deref-2.ensures.value c.in_ok-missing.ensures.lacks) in
@@ -45,10 +45,10 @@ returns-clause-back g c = λ header order st o of runs known has.
     let room = c.no_store-store.ensures in
     let lost = made.lost in
     let failures_are = c.in_ok-failures.ensures st o known.was.events known.was.cluster known.was.now in
-    subst (λ (es : List Entry). GoesBackSo meaning course next.machines.items c.args.places.now.run.engine (store_view next.store) es lost_now next.lost.items front next.front.items st o known.was.events known.was.cluster) (sym made.order)
-    (goes_so meaning c.args.graph.now (meaning c.args.program) c.args.places.now course header [] [] lost_now stored front order st o runs known has failures c.next.result
+    subst (λ (es : List Entry). RestartsFrom meaning trace next.machines.items c.args.places.now.run.engine (store_view next.store) es lost_now next.lost.items front next.front.items st o known.was.events known.was.cluster) (sym made.order)
+    (goes_so meaning c.args.graph.now (meaning c.args.program) c.args.places.now trace header [] [] lost_now stored front order st o runs known has failures c.next.result
     failures_are (c.next.ensures st o known.was.events known.was.cluster known.was.now) missing c.in_ok-missing.ensures.alone lacks c.in-Ok.base behind next.machines.items
     (λ to. made.stand st o known.was.events known.was.cluster known.was.now to) (store_view next.store) (ap (λ s. s.vertices) made.store ∙ room.vertices)
     (ap (λ s. s.edges) made.store ∙ room.edges) (ap (λ s. s.newest) made.store ∙ room.newest ∙ sym c.in-Ok.ensures.number)
-    (ap (λ s. s.length) made.store ∙ room.place (near meaning course header lost_now stored front order st o known failures failures_are c.requires.failures c.requires.machines))
+    (ap (λ s. s.length) made.store ∙ room.place (near meaning trace header lost_now stored front order st o known failures failures_are c.requires.failures c.requires.machines))
     next.front.items next.lost.items lost.0 (made.front ∙ ap (λ (es : List Entry). stored ++ es) c.deref-4.ensures.value) lost.1 (λ to. lost.2 st o known.was.events known.was.cluster known.was.now to))

@@ -14,7 +14,7 @@ returns-clause-started g c = λ told st runs good.
     let seen = (g.D.Disk.past c.args.journal.now.disk).now.seen in
     let base = c.in_ok-base.base in
     let opening = c.in_ok-opening.opening in
-    let course = c.in-Ok-course_of.course in
+    let trace = c.in-Ok-trace_of.trace in
     let places = c.in-Ok.places in
     let failures = c.args.failures.now in
     let budget = c.args.plan.run.budget in
@@ -25,10 +25,10 @@ returns-clause-started g c = λ told st runs good.
     let base_good = c.in_ok-base.ensures.good told (shared_of st failures) runs.placed.graph runs.program_is c.requires.graph good in
     let are = c.in-Ok.ensures.placed.are in
     let fresh : c.args.resumed ≡ false → length (stored_in header seen) ≡ 0 = λ is. sym (c.count-stored.ensures.stored told c.in_ok-base.ensures.well.0) ∙ c.count-stored.ensures.count ∙ c.requires.fresh is in
-    has_started meaning graph program header (stored_in header seen) base c.args.resumed opening course places failures budget machines recovered low op st runs good base_good c.requires.failures are c.requires.plan.budget fresh
-    (c.in-Ok-course_of.ensures.opened st c.args.resumed base.order runs
-    (can_open meaning graph program header (stored_in header seen) base c.args.resumed opening course places failures budget machines recovered low op st runs good base_good c.requires.failures are c.requires.plan.budget fresh))
-    c.in-Ok-course_of.ensures.failures c.requires.graph c.requires.machines
+    has_started meaning graph program header (stored_in header seen) base c.args.resumed opening trace places failures budget machines recovered low op st runs good base_good c.requires.failures are c.requires.plan.budget fresh
+    (c.in-Ok-trace_of.ensures.opened st c.args.resumed base.order runs
+    (can_open meaning graph program header (stored_in header seen) base c.args.resumed opening trace places failures budget machines recovered low op st runs good base_good c.requires.failures are c.requires.plan.budget fresh))
+    c.in-Ok-trace_of.ensures.failures c.requires.graph c.requires.machines
 
 pub returns-clause-setting : goal.returns-clause-setting
 returns-clause-setting g c =

@@ -8,7 +8,7 @@ returns-in-Ok-gathered-clause-run g c = λ owner placement.
     let made = c.in_ok-call.ensures in
     run_owned g.P.Program.meaning c.args.graph.now (g.P.Program.meaning c.args.program) c.args.cut.now _ c.args.failures.now c.in_ok-call.call c.play_unstored.new.call c.in-Ok.end made.graph made.places
     (λ owner other. c.placements_are_one.ensures c.args.graph.now c.args.cut.now c.args.plan.machines owner other made.graph c.requires.plan.machines) made.begun made.failures c.in-Ok.ensures.on c.in-Ok.ensures.ends
-    owner placement c.in-Ok-gathered.run' c.in-Ok-gathered.ensures.run c.in-Ok-gathered.ensures.course c.in-Ok-gathered.ensures.end
+    owner placement c.in-Ok-gathered.run' c.in-Ok-gathered.ensures.run c.in-Ok-gathered.ensures.trace c.in-Ok-gathered.ensures.end
 
 pub returns-in-Ok-gathered-clause-engine : goal.returns-in-Ok-gathered-clause-engine
 returns-in-Ok-gathered-clause-engine g c =
@@ -16,7 +16,7 @@ returns-in-Ok-gathered-clause-engine g c =
       _,
       run_by g.P.Program.meaning c.args.graph.now (g.P.Program.meaning c.args.program) c.args.cut.now _ c.args.failures.now c.in_ok-call.call c.play_unstored.new.call c.in-Ok.end made.graph made.places
           (λ owner other. c.placements_are_one.ensures c.args.graph.now c.args.cut.now c.args.plan.machines owner other made.graph c.requires.plan.machines) made.begun made.failures c.in-Ok.ensures.on c.in-Ok.ensures.ends
-          _ made.places.placement _ c.in-Ok-gathered.ensures.course,
+          _ made.places.placement _ c.in-Ok-gathered.ensures.trace,
     )
 
 pub returns-in-Ok-gathered-clause-enough : goal.returns-in-Ok-gathered-clause-enough

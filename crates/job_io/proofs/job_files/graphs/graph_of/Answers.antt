@@ -3,7 +3,7 @@ use Rattle.std.proofs.lemmas.Result.{err_from_is_err_and}
 use Rattle.job_io.specs.job_config.Views.{job_view}
 use Rattle.job_io.specs.job_files.NamesRead.{edges_after, graph_names}
 use Rattle.job_io.proofs.job_files.GraphsTold.{edges-taken, vertices-refused, vertices-renamed}
-use Rattle.job_io.proofs.job_files.NamesGraph.{AppendsNames-edges, HandsOver-edges}
+use Rattle.job_io.proofs.job_files.NamesGraph.{AppendsNames-edges, OpensInOrder-edges}
 use Rattle.job_io.proofs.whole_files.FilesCreated.{OnOk-map}
 use Rattle.job_io.proofs.whole_files.TextsRead.{reads-after, reads-more, renamed}
 use Rattle.job_io.proofs.job_files.graphs.graph_of.Goals as goal
@@ -31,7 +31,7 @@ pub returns-clause-read : goal.returns-clause-read
 returns-clause-read g c =
     let files = g.F.Files.state c.args.files.now in
     reads-after files (g.F.Files.state c.vertices_of.new.files) _ _ _ (graph_names files (job_view c.args.job.now).fields) c.in_ok-list.ensures.read c.edges_of.ensures.read
-    (HandsOver-edges _ _ _ (files.contents c.args.job.now.vertices) c.as_str.result.now c.args.job.now.vertices c.as_str-2.result.now c.args.job.now.edges
+    (OpensInOrder-edges _ _ _ (files.contents c.args.job.now.vertices) c.as_str.result.now c.args.job.now.vertices c.as_str-2.result.now c.args.job.now.edges
     c.in_ok-list.list.ids.items c.as_str.ensures c.as_str-2.ensures (renamed files c.as_str.result.now c.args.job.now.vertices _ c.as_str.ensures c.in_ok-list.ensures.answer.1) c.in_ok-list.ensures.handed c.edges_of.ensures.read.handed)
 
 pub returns-clause-handed : goal.returns-clause-handed

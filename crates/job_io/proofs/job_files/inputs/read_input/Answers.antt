@@ -6,7 +6,7 @@ use Rattle.job_io.specs.job_files.JobTexts.{DescribeJobGraph, OfTexts}
 use Rattle.job_io.specs.job_files.NamesRead.{names_after, names_of}
 use Rattle.job_io.proofs.job_files.GraphTexts.{texts-before}
 use Rattle.job_io.proofs.job_files.InputsRead.{graph-handed-before, graph-names-before, no-input-graph, no-input-job, no-input-source}
-use Rattle.job_io.proofs.job_files.NamesGraph.{AppendsNames-graph, HandsOver-graph}
+use Rattle.job_io.proofs.job_files.NamesGraph.{AppendsNames-graph, OpensInOrder-graph}
 use Rattle.job_io.proofs.job_files.inputs.read_input.Goals as goal
 
 pub returns-in_err-job-clause-read : goal.returns-in_err-job-clause-read
@@ -25,7 +25,7 @@ returns-in_err-graph-clause-read g c =
     let mid = g.F.Files.state c.job_of.new.files in
     let job = job_view c.in_ok-job.job in
     reads-after files mid _ _ _ (names_of c.args.verb files c.args.file.now) c.in_ok-job.ensures.read c.in_err-graph.ensures.read
-    (HandsOver-graph c.args.verb files mid.sources.names _ c.args.file.now job c.in_ok-job.ensures.answer.1 c.in_ok-job.ensures.handed
+    (OpensInOrder-graph c.args.verb files mid.sources.names _ c.args.file.now job c.in_ok-job.ensures.answer.1 c.in_ok-job.ensures.handed
     (graph-names-before files mid _ job.fields c.in_ok-job.ensures.read.frame c.in_err-graph.ensures.read.handed))
 
 pub returns-in_err-graph-clause-answer : goal.returns-in_err-graph-clause-answer
@@ -41,7 +41,7 @@ returns-in-None-clause-read g c =
     let mid = g.F.Files.state c.job_of.new.files in
     let job = job_view c.in_ok-job.job in
     reads-after files mid _ _ _ (names_of c.args.verb files c.args.file.now) c.in_ok-job.ensures.read c.in_ok-graph.ensures.read
-    (HandsOver-graph c.args.verb files mid.sources.names _ c.args.file.now job c.in_ok-job.ensures.answer.1 c.in_ok-job.ensures.handed
+    (OpensInOrder-graph c.args.verb files mid.sources.names _ c.args.file.now job c.in_ok-job.ensures.answer.1 c.in_ok-job.ensures.handed
     (graph-names-before files mid _ job.fields c.in_ok-job.ensures.read.frame c.in_ok-graph.ensures.read.handed))
 
 pub returns-in-None-clause-handed : goal.returns-in-None-clause-handed
@@ -72,7 +72,7 @@ returns-in-Some-clause-read g c =
     let mid = g.F.Files.state c.job_of.new.files in
     let job = job_view c.in_ok-job.job in
     reads-after files mid _ _ _ (names_of c.args.verb files c.args.file.now) c.in_ok-job.ensures.read c.in_ok-graph.ensures.read
-    (HandsOver-graph c.args.verb files mid.sources.names _ c.args.file.now job c.in_ok-job.ensures.answer.1 c.in_ok-job.ensures.handed
+    (OpensInOrder-graph c.args.verb files mid.sources.names _ c.args.file.now job c.in_ok-job.ensures.answer.1 c.in_ok-job.ensures.handed
     (graph-names-before files mid _ job.fields c.in_ok-job.ensures.read.frame c.in_ok-graph.ensures.read.handed))
 
 pub returns-in-Some-clause-answer : goal.returns-in-Some-clause-answer

@@ -1,7 +1,7 @@
 use Rattle.std.proofs.Common.{inl, Ok, Err, subst}
 use Rattle.std.proofs.lemmas.Result.{err_from_is_err_and}
 use Rattle.gl_outside.proofs.Opening.{ChangesSources-trans}
-use Rattle.job_io.specs.whole_files.FilesUsed.{HandsOver}
+use Rattle.job_io.specs.whole_files.FilesUsed.{OpensInOrder}
 use Rattle.job_io.specs.job_files.NamesRead.{names_of}
 use Rattle.job_io.proofs.job_files.AtomsLooked.{atoms-names-before, named-before}
 use Rattle.job_io.proofs.job_files.InputsRead.{hands-for-run, refuses-early, run-cut, run-read, run-refused, run-unread}
@@ -52,7 +52,7 @@ returns-in-Ok-clause-handed g c =
     let input = c.in_ok-input.input in
     let was = c.in_ok-input.ensures in
     hands-for-run c.args.verb files mid new c.args.file.now input was.answer was.handed
-    (subst (HandsOver mid.sources.names new.sources.names) (atoms-names-before files mid input.job.atoms_at was.read.frame) c.in-Ok.ensures.read.handed)
+    (subst (OpensInOrder mid.sources.names new.sources.names) (atoms-names-before files mid input.job.atoms_at was.read.frame) c.in-Ok.ensures.read.handed)
 
 pub returns-in-Err-clause-answer : goal.returns-in-Err-clause-answer
 returns-in-Err-clause-answer g c =
@@ -72,4 +72,4 @@ returns-in-Err-clause-handed g c =
     let input = c.in_ok-input.input in
     let was = c.in_ok-input.ensures in
     hands-for-run c.args.verb files mid new c.args.file.now input was.answer was.handed
-    (subst (HandsOver mid.sources.names new.sources.names) (atoms-names-before files mid input.job.atoms_at was.read.frame) c.in-Err.ensures.read.handed)
+    (subst (OpensInOrder mid.sources.names new.sources.names) (atoms-names-before files mid input.job.atoms_at was.read.frame) c.in-Err.ensures.read.handed)

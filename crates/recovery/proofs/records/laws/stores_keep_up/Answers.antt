@@ -6,5 +6,5 @@ pub returns-clause-opens : goal.returns-clause-opens
 returns-clause-opens c = λ st failures header bodies good. opens_up st failures header bodies good
 
 pub returns-clause-grows : goal.returns-clause-grows
-returns-clause-grows c = λ st failures kept resumed base first events cluster header start bodies made course kept_is keeps due is small fits machines.
-    grows_up st failures kept resumed base first events cluster course header start bodies kept_is keeps due made is small fits machines
+returns-clause-grows c = λ st failures kept resumed base first events cluster header start bodies made trace kept_is keeps due is small fits machines.
+    grows_up st failures kept resumed base first events cluster trace header start bodies kept_is keeps due made is small fits machines

@@ -2,7 +2,7 @@
 use Rattle.std.proofs.Common.{◌≡◌, ◌||◌, false, List, Vec, Global, refl, ap, ◌∙◌, sym, subst}
 use Rattle.gl_base.specs.declared.numbers.Vertex.{Vertex}
 use Rattle.wire.specs.declared.wire_msgs.messages.Done.{Done}
-use Rattle.partition.specs.machine_numbers.Views.{flag_there, is_named, is_own, place_at}
+use Rattle.partition.specs.machine_numbers.Views.{flag_there, is_in_update, is_own, place_at}
 use Rattle.machine_core.specs.declared.machine_parts.cores.Core.{Core}
 use Rattle.snapshot_machines.specs.marking.Sending.{AreMarksUpTo}
 use Rattle.snapshot_machines.proofs.marking.LearnLemmas.{heard_part, known_grows, learned_is, most_grows, most_heard}
@@ -29,7 +29,7 @@ returns-clause-learned c =
     (heard_part c.begin.new.core heard plain c.new.ensures.items e.learned e.tasks e.local e.released e.rest c.begin.new.snaps)
     (ap (with_tasks heard) c.pend_named.ensures.rest)
     (λ u.
-    c.pend_named.ensures.each u ∙ ap (λ (vs : List Vertex). is_named vs u || flag_there heard.numbers.tasks.pending (place_at heard.numbers.local u)) c.deref.ensures.value)
+    c.pend_named.ensures.each u ∙ ap (λ (vs : List Vertex). is_in_update vs u || flag_there heard.numbers.tasks.pending (place_at heard.numbers.local u)) c.deref.ensures.value)
 
 pub returns-clause-marks : goal.returns-clause-marks
 returns-clause-marks c most =

@@ -7,8 +7,8 @@ abbrev pub invariant-pieces : goal.invariant-pieces
 invariant-pieces g l =
     record {
       inside : l.done ≤ length l.buf;
-      bytes : IsTrue g.D.Disk.told → FilledSoFar (g.D.Disk.past l.initial.disk).now.seen l.at l.buf l.done;
-      past : IsTrue g.D.Disk.told → g.D.Disk.past l.disk ≡ g.D.Disk.past l.initial.disk;
+      bytes : IsTrue g.D.Disk.observable → FilledSoFar (g.D.Disk.past l.initial.disk).now.seen l.at l.buf l.done;
+      past : IsTrue g.D.Disk.observable → g.D.Disk.past l.disk ≡ g.D.Disk.past l.initial.disk;
       same : g.D.Disk.same l.initial.disk l.disk;
       later : g.D.Disk.faults l.initial.disk ≤ g.D.Disk.faults l.disk;
     }

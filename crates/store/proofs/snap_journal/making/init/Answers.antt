@@ -1,7 +1,7 @@
 use Rattle.std.proofs.Common.{◌≡◌, [], ◌∷◌, ◌++◌, length, sym, ap, ◌∙◌, subst, arith}
 use Rattle.gl_outside.specs.Disk.{DiskPast, after_sync}
 use Rattle.store.specs.store_format.Headers.{store_header}
-use Rattle.store.specs.store_format.Stores.{StandsFor}
+use Rattle.store.specs.store_format.Stores.{DecodesTo}
 use Rattle.store.proofs.store_format.NewLemmas.{new_stands}
 use Rattle.store.specs.snap_journal.Inner.Settled.{IsAtRest}
 use Rattle.store.proofs.snap_journal.AppendLemmas.{rest_leaves, after_sync_rests, fresh_piece}
@@ -21,4 +21,4 @@ returns-clause-images g c = λ told image left.
 pub returns-clause-stands : goal.returns-clause-stands
 returns-clause-stands g c = λ told image left.
     let is : image ≡ store_header c.args.header.now ++ 0 ∷ [] = returns-clause-images g c told image left in
-    subst (StandsFor c.args.header.now []) (sym is) (new_stands c.args.header.now c.requires c.new_store.ensures.fits)
+    subst (DecodesTo c.args.header.now []) (sym is) (new_stands c.args.header.now c.requires c.new_store.ensures.fits)

@@ -5,8 +5,8 @@ use Rattle.whole_laws.proofs.cluster_ending.examples.a_run_to_its_end.Goals as g
 pub returns-clause-setting : goal.returns-clause-setting
 returns-clause-setting c = (lone_setting, tt)
 
-pub returns-clause-course : goal.returns-clause-course
-returns-clause-course c = lone_may
+pub returns-clause-trace : goal.returns-clause-trace
+returns-clause-trace c = lone_may
 
 pub returns-clause-end : goal.returns-clause-end
 returns-clause-end c = lone_end

@@ -1,6 +1,6 @@
 -- An idle machine does nothing before it receives something or hears of a snapshot.
 use Rattle.std.proofs.Common.{le_antisymm, le_trans, ◌≤◌, ℕ, subst, sym}
-use Rattle.whole_laws.proofs.cluster_ending.Courses.{since_ends}
+use Rattle.whole_laws.proofs.cluster_ending.Traces.{since_ends}
 use Rattle.whole_laws.proofs.cluster_ending.Finding.{at_rest, rest_ends}
 use Rattle.whole_laws.proofs.cluster_ending.laws.quiet_waves_end_all.Goals as goal
 
@@ -8,7 +8,7 @@ pub returns-clause-watched : goal.returns-clause-watched
 returns-clause-watched c = λ st cluster watch whole was end none. rest_ends st cluster whole (at_rest st cluster watch was end none)
 
 pub returns-clause-since : goal.returns-clause-since
-returns-clause-since c = λ st events old new is followed others no_begins course two end. since_ends st is events others no_begins old new followed course two end
+returns-clause-since c = λ st events old new is followed others no_begins trace two end. since_ends st is events others no_begins old new followed trace two end
 
 pub returns-clause-no_snapshot : goal.returns-clause-no_snapshot
 returns-clause-no_snapshot c = λ st cluster followed end none.

@@ -1,12 +1,12 @@
 -- By computation.
-use Rattle.whole_laws.proofs.cluster_records.FirstStep.{coloured, course, no_grant, no_other, offered}
+use Rattle.whole_laws.proofs.cluster_records.FirstStep.{coloured, trace, no_grant, no_other, offered}
 use Rattle.whole_laws.proofs.cluster_records.examples.a_step_of_one_colour.Goals as goal
 
 pub returns-clause-colours : goal.returns-clause-colours
 returns-clause-colours c = coloured
 
-pub returns-clause-course : goal.returns-clause-course
-returns-clause-course c = course
+pub returns-clause-trace : goal.returns-clause-trace
+returns-clause-trace c = trace
 
 pub returns-clause-offered : goal.returns-clause-offered
 returns-clause-offered c = offered

@@ -22,7 +22,7 @@ give-requires-clause-holds g c =
 pub returns-clause-sits : goal.returns-clause-sits
 returns-clause-sits g c =
     let h = c.requires.holds in
-    sits_given g.M.SavingMachine.stands c.args.member.now c.exchange.new.place.seat.me c.give.new.place.seat.me (Node (at_rest h.0)) c.args.link h.1 c.args.queue
+    sits_given g.M.SavingMachine.represents c.args.member.now c.exchange.new.place.seat.me c.give.new.place.seat.me (Node (at_rest h.0)) c.args.link h.1 c.args.queue
     (holds_another c.args.place.now.seat.me c.exchange.new.place.seat.me (Node (at_rest h.0)) [] c.args.link h.1 h.2 c.args.queue h.3 c.exchange.ensures.now)
     (c.give.ensures.given (Node (at_rest c.args.member.now)) refl)
 

@@ -16,41 +16,41 @@ returns-in-Out-clause-sits g c = let is = c.in-Out.is in c.take_laden.ensures.mi
 
 pub hear_first-heard-requires : goal.hear_first-heard-requires
 hear_first-heard-requires g c =
-    let stands = g.M.SavingMachine.stands in
+    let represents = g.M.SavingMachine.represents in
     let member = c.args.member.now in
     let t = c.take_laden.ensures.taken c.in-Laden.is in
-    let is : t.queue ≡ c.exchange-queue.result = queue_is stands member c.take_laden.new.place.seat.me c.exchange-queue.new.place.seat.me c.link-link.result _ c.exchange-queue.result t c.exchange-queue.ensures.now c.exchange-queue.ensures.was in
+    let is : t.queue ≡ c.exchange-queue.result = queue_is represents member c.take_laden.new.place.seat.me c.exchange-queue.new.place.seat.me c.link-link.result _ c.exchange-queue.result t c.exchange-queue.ensures.now c.exchange-queue.ensures.was in
     let inside = c.requires.inside in
     let last : suc (member.peers - 1) ≡ member.peers = omega arith in
-    subst (λ (l : LinkView). MayHearFirst stands member.machine l.messages) is (t.learns.1 (member.peers - 1) last c.link-link.ensures.number)
+    subst (λ (l : LinkView). MayHearFirst represents member.machine l.messages) is (t.learns.1 (member.peers - 1) last c.link-link.ensures.number)
 
 pub give_back-requires-clause-holds : goal.give_back-requires-clause-holds
 give_back-requires-clause-holds g c =
-    let stands = g.M.SavingMachine.stands in
+    let represents = g.M.SavingMachine.represents in
     let about = c.args.self.now.table.table.shared.key.about in
     let member = c.args.member.now in
     let t = c.take_laden.ensures.taken c.in-Laden.is in
-    let is : t.queue ≡ c.exchange-queue.result = queue_is stands member c.take_laden.new.place.seat.me c.exchange-queue.new.place.seat.me c.link-link.result _ c.exchange-queue.result t c.exchange-queue.ensures.now c.exchange-queue.ensures.was in
+    let is : t.queue ≡ c.exchange-queue.result = queue_is represents member c.take_laden.new.place.seat.me c.exchange-queue.new.place.seat.me c.link-link.result _ c.exchange-queue.result t c.exchange-queue.ensures.now c.exchange-queue.ensures.was in
     let after : Member g.row.M.Denot = record { number = member.number; peers = member.peers; machine = c.hear_first-heard.new.machine } in
     let inside = c.requires.inside in
     let last : suc (member.peers - 1) ≡ member.peers = omega arith in (
       member,
       t.queue,
       _,
-      holds_now stands member c.take_laden.new.place.seat.me c.exchange-queue.new.place.seat.me c.link-link.result _ c.exchange-queue.result t c.exchange-queue.ensures.now c.exchange-queue.ensures.was,
+      holds_now represents member c.take_laden.new.place.seat.me c.exchange-queue.new.place.seat.me c.link-link.result _ c.exchange-queue.result t c.exchange-queue.ensures.now c.exchange-queue.ensures.was,
       refl,
-      subst (λ (i : ℕ). CarriesLink number_of (HasBeenLed stands about.failures.value.items about.done.value.items (standing_parts about.machines about.opening.value) about.machines) i (Node (at_rest member)) t.queue (Node (at_rest after)) c.hear_first-heard.new.queue) (sym c.link-link.ensures.number)
-          (carries_call stands about.failures.value.items about.done.value.items (standing_parts about.machines about.opening.value) about.machines member after refl refl t.queue c.hear_first-heard.new.queue (member.peers - 1) last
-          (subst (λ (l : LinkView). HasHeardFirst stands member.machine l.messages c.hear_first-heard.new.queue.messages after.machine) (sym is) c.hear_first-heard.ensures.both) c.requires.free),
+      subst (λ (i : ℕ). CarriesLink number_of (HasBeenLed represents about.failures.value.items about.done.value.items (standing_parts about.machines about.opening.value) about.machines) i (Node (at_rest member)) t.queue (Node (at_rest after)) c.hear_first-heard.new.queue) (sym c.link-link.ensures.number)
+          (carries_call represents about.failures.value.items about.done.value.items (standing_parts about.machines about.opening.value) about.machines member after refl refl t.queue c.hear_first-heard.new.queue (member.peers - 1) last
+          (subst (λ (l : LinkView). HasHeardFirst represents member.machine l.messages c.hear_first-heard.new.queue.messages after.machine) (sym is) c.hear_first-heard.ensures.both) c.requires.free),
     )
 
 pub returns-then-branch-clause-applied : goal.returns-then-branch-clause-applied
 returns-then-branch-clause-applied g c =
     λ same.
-    let stands = g.M.SavingMachine.stands in
+    let represents = g.M.SavingMachine.represents in
     let member = c.args.member.now in
     let t = c.take_laden.ensures.taken c.in-Laden.is in
-    let is : t.queue ≡ c.exchange-queue.result = queue_is stands member c.take_laden.new.place.seat.me c.exchange-queue.new.place.seat.me c.link-link.result _ c.exchange-queue.result t c.exchange-queue.ensures.now c.exchange-queue.ensures.was in
+    let is : t.queue ≡ c.exchange-queue.result = queue_is represents member c.take_laden.new.place.seat.me c.exchange-queue.new.place.seat.me c.link-link.result _ c.exchange-queue.result t c.exchange-queue.ensures.now c.exchange-queue.ensures.was in
     let inside = c.requires.inside in
     let last : suc (member.peers - 1) ≡ member.peers = omega arith in
     let heard = c.in_ok-heard.ensures.heard c.if-branch.true in

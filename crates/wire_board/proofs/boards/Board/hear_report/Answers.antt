@@ -24,31 +24,31 @@ exchange-queue-requires-clause-holds g c =
 
 pub hear_one-some-requires : goal.hear_one-some-requires
 hear_one-some-requires g c =
-    let stands = g.M.SavingMachine.stands in
+    let represents = g.M.SavingMachine.represents in
     let lead = c.args.lead.now in
     let others = c.requires.sits.0 in
     let t = c.take_lead.ensures.taken c.in-Laden.is others c.requires.sits.1 in
-    let is : t.queue ≡ c.exchange-queue.result = lead_queue_is lead others stands c.take_lead.new.place.seat.me c.exchange-queue.new.place.seat.me c.link-link.result _ c.exchange-queue.result t c.exchange-queue.ensures.now c.exchange-queue.ensures.was in
+    let is : t.queue ≡ c.exchange-queue.result = lead_queue_is lead others represents c.take_lead.new.place.seat.me c.exchange-queue.new.place.seat.me c.link-link.result _ c.exchange-queue.result t c.exchange-queue.ensures.now c.exchange-queue.ensures.was in
     λ message rest first.
     t.learns c.args.from.0 message rest c.requires.from (c.link-link.ensures.number ∙ ap (λ (k : ℕ). link_no k c.args.from.0 lead.number) (add-one lead.number)) (ap (λ (l : LinkView). l.messages) is ∙ first)
 
 pub give_back_lead-requires-clause-holds : goal.give_back_lead-requires-clause-holds
 give_back_lead-requires-clause-holds g c =
-    let stands = g.M.SavingMachine.stands in
+    let represents = g.M.SavingMachine.represents in
     let about = c.args.self.now.table.table.shared.key.about in
     let lead = c.args.lead.now in
     let others = c.requires.sits.0 in
     let t = c.take_lead.ensures.taken c.in-Laden.is others c.requires.sits.1 in
-    let is : t.queue ≡ c.exchange-queue.result = lead_queue_is lead others stands c.take_lead.new.place.seat.me c.exchange-queue.new.place.seat.me c.link-link.result _ c.exchange-queue.result t c.exchange-queue.ensures.now c.exchange-queue.ensures.was in
+    let is : t.queue ≡ c.exchange-queue.result = lead_queue_is lead others represents c.take_lead.new.place.seat.me c.exchange-queue.new.place.seat.me c.link-link.result _ c.exchange-queue.result t c.exchange-queue.ensures.now c.exchange-queue.ensures.was in
     let after : Leading = record { number = lead.number; coordinator = c.hear_one-some.new.coordinator } in
     let r : LinkView = c.hear_one-some.new.queue in
-    let carried : CarriesLink number_of (HasBeenLed stands about.failures.value.items about.done.value.items (standing_parts about.machines about.opening.value) about.machines) (link_no (suc lead.number) c.args.from.0 lead.number) (Lead lead) t.queue (Lead after) r =
+    let carried : CarriesLink number_of (HasBeenLed represents about.failures.value.items about.done.value.items (standing_parts about.machines about.opening.value) about.machines) (link_no (suc lead.number) c.args.from.0 lead.number) (Lead lead) t.queue (Lead after) r =
     ⊎_elim
     (λ (one : (message : Message) × (c.exchange-queue.result.messages ≡ message_view message ∷ r.messages) × HasTakenReport lead.coordinator after.coordinator c.args.from.0 (message_view message)).
-    carries_report_heard stands about.failures.value.items about.done.value.items (standing_parts about.machines about.opening.value) about.machines lead after refl c.args.from.0 c.requires.from t.queue r one.0
+    carries_report_heard represents about.failures.value.items about.done.value.items (standing_parts about.machines about.opening.value) about.machines lead after refl c.args.from.0 c.requires.from t.queue r one.0
     (ap (λ (l : LinkView). l.messages) is ∙ one.1) one.2)
     (λ (still : (r.messages ≡ c.exchange-queue.result.messages) × StaysCoordinator lead.coordinator after.coordinator).
-    carries_no_report stands about.failures.value.items about.done.value.items (standing_parts about.machines about.opening.value) about.machines lead after refl c.args.from.0 c.requires.from t.queue r
+    carries_no_report represents about.failures.value.items about.done.value.items (standing_parts about.machines about.opening.value) about.machines lead after refl c.args.from.0 c.requires.from t.queue r
     (still.0 ∙ ap (λ (l : LinkView). l.messages) (sym is)) still.1)
     c.hear_one-some.ensures.both
     in (
@@ -56,9 +56,9 @@ give_back_lead-requires-clause-holds g c =
       others,
       t.queue,
       _,
-      lead_holds_now lead others stands c.take_lead.new.place.seat.me c.exchange-queue.new.place.seat.me c.link-link.result _ c.exchange-queue.result t c.exchange-queue.ensures.now c.exchange-queue.ensures.was,
+      lead_holds_now lead others represents c.take_lead.new.place.seat.me c.exchange-queue.new.place.seat.me c.link-link.result _ c.exchange-queue.result t c.exchange-queue.ensures.now c.exchange-queue.ensures.was,
       refl,
-      subst (λ (i : ℕ). CarriesLink number_of (HasBeenLed stands about.failures.value.items about.done.value.items (standing_parts about.machines about.opening.value) about.machines) i (Lead lead) t.queue (Lead after) r)
+      subst (λ (i : ℕ). CarriesLink number_of (HasBeenLed represents about.failures.value.items about.done.value.items (standing_parts about.machines about.opening.value) about.machines) i (Lead lead) t.queue (Lead after) r)
           (sym (c.link-link.ensures.number ∙ ap (λ (k : ℕ). link_no k c.args.from.0 lead.number) (add-one lead.number))) carried,
     )
 
@@ -68,7 +68,7 @@ returns-then-some-clause-sits g c =
     let lead = c.args.lead.now in
     let t = c.take_lead.ensures.taken c.in-Laden.is others s in
     c.give_back_lead.ensures.sits lead others t.queue _
-    (lead_holds_now lead others g.M.SavingMachine.stands c.take_lead.new.place.seat.me c.exchange-queue.new.place.seat.me c.link-link.result _ c.exchange-queue.result t c.exchange-queue.ensures.now c.exchange-queue.ensures.was)
+    (lead_holds_now lead others g.M.SavingMachine.represents c.take_lead.new.place.seat.me c.exchange-queue.new.place.seat.me c.link-link.result _ c.exchange-queue.result t c.exchange-queue.ensures.now c.exchange-queue.ensures.was)
 
 pub returns-else-some-clause-sits : goal.returns-else-some-clause-sits
 returns-else-some-clause-sits g c =
@@ -76,7 +76,7 @@ returns-else-some-clause-sits g c =
     let lead = c.args.lead.now in
     let t = c.take_lead.ensures.taken c.in-Laden.is others s in
     c.give_back_lead.ensures.sits lead others t.queue _
-    (lead_holds_now lead others g.M.SavingMachine.stands c.take_lead.new.place.seat.me c.exchange-queue.new.place.seat.me c.link-link.result _ c.exchange-queue.result t c.exchange-queue.ensures.now c.exchange-queue.ensures.was)
+    (lead_holds_now lead others g.M.SavingMachine.represents c.take_lead.new.place.seat.me c.exchange-queue.new.place.seat.me c.link-link.result _ c.exchange-queue.result t c.exchange-queue.ensures.now c.exchange-queue.ensures.was)
 
 pub returns-in-Bare-clause-empty : goal.returns-in-Bare-clause-empty
 returns-in-Bare-clause-empty g c =
@@ -109,11 +109,11 @@ returns-else-some-clause-empty g c =
 pub returns-then-some-clause-applied : goal.returns-then-some-clause-applied
 returns-then-some-clause-applied g c =
     λ same.
-    let stands = g.M.SavingMachine.stands in
+    let represents = g.M.SavingMachine.represents in
     let lead = c.args.lead.now in
     let others = c.requires.sits.0 in
     let t = c.take_lead.ensures.taken c.in-Laden.is others c.requires.sits.1 in
-    let is : t.queue ≡ c.exchange-queue.result = lead_queue_is lead others stands c.take_lead.new.place.seat.me c.exchange-queue.new.place.seat.me c.link-link.result _ c.exchange-queue.result t c.exchange-queue.ensures.now c.exchange-queue.ensures.was in
+    let is : t.queue ≡ c.exchange-queue.result = lead_queue_is lead others represents c.take_lead.new.place.seat.me c.exchange-queue.new.place.seat.me c.link-link.result _ c.exchange-queue.result t c.exchange-queue.ensures.now c.exchange-queue.ensures.was in
     let heard = c.hear_one-some.ensures.heard c.if-some.true in (
       heard.0,
       t.learns c.args.from.0 heard.0 c.hear_one-some.new.queue.messages c.requires.from (c.link-link.ensures.number ∙ ap (λ (k : ℕ). link_no k c.args.from.0 lead.number) (add-one lead.number))

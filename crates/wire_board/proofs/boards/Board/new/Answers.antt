@@ -6,13 +6,13 @@ use Rattle.wire_board.proofs.boards.Board.new.Goals as goal
 
 pub new-requires-clause-led : goal.new-requires-clause-led
 new-requires-clause-led g c =
-    let stands = g.M.SavingMachine.stands in
+    let represents = g.M.SavingMachine.represents in
     let about = c.args.about in
-    let led = opens_board stands about.failures.value.items about.done.value.items about.machines about.opening.value c.args.links.items c.requires.opening c.requires.stands in (
+    let led = opens_board represents about.failures.value.items about.done.value.items about.machines about.opening.value c.args.links.items c.requires.opening c.requires.stands in (
       _,
       _,
       refl,
-      in_order stands about.failures.value.items about.done.value.items about.machines about.opening.value c.args.links.items c.requires.opening,
-      subst (λ (next : ℕ). HasBeenLed stands about.failures.value.items about.done.value.items (standing_parts about.machines about.opening.value) about.machines (nodes (numbered (suc about.machines) 0 about.opening.value.machines.items) ++ Lead (record { number = about.machines; coordinator = about.opening.value.coordinator }) ∷ []) c.args.links.items next c.args.left) c.requires.tickets.0
-          (subst (λ (left : ℕ). HasBeenLed stands about.failures.value.items about.done.value.items (standing_parts about.machines about.opening.value) about.machines (nodes (numbered (suc about.machines) 0 about.opening.value.machines.items) ++ Lead (record { number = about.machines; coordinator = about.opening.value.coordinator }) ∷ []) c.args.links.items about.opening.value.next left) c.requires.tickets.1 led),
+      in_order represents about.failures.value.items about.done.value.items about.machines about.opening.value c.args.links.items c.requires.opening,
+      subst (λ (next : ℕ). HasBeenLed represents about.failures.value.items about.done.value.items (standing_parts about.machines about.opening.value) about.machines (nodes (numbered (suc about.machines) 0 about.opening.value.machines.items) ++ Lead (record { number = about.machines; coordinator = about.opening.value.coordinator }) ∷ []) c.args.links.items next c.args.left) c.requires.tickets.0
+          (subst (λ (left : ℕ). HasBeenLed represents about.failures.value.items about.done.value.items (standing_parts about.machines about.opening.value) about.machines (nodes (numbered (suc about.machines) 0 about.opening.value.machines.items) ++ Lead (record { number = about.machines; coordinator = about.opening.value.coordinator }) ∷ []) c.args.links.items about.opening.value.next left) c.requires.tickets.1 led),
     )

@@ -15,7 +15,7 @@ settle-requires-clause-rests g c =
       refl,
       s.rests,
       s.number,
-      carries g.M.SavingMachine.stands about.failures.value.items about.done.value.items (standing_parts about.machines about.opening.value) about.machines s.was c.args.member.now s.number s.peers s.come,
+      carries g.M.SavingMachine.represents about.failures.value.items about.done.value.items (standing_parts about.machines about.opening.value) about.machines s.was c.args.member.now s.number s.peers s.come,
     )
 
 pub returns-clause-rests : goal.returns-clause-rests

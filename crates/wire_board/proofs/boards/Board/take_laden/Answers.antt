@@ -2,7 +2,7 @@ use Rattle.wire_board.proofs.Places.{sits_read}
 use Rattle.wire_board.proofs.boards.Board.take_laden.Goals as goal
 
 pub take-requires-clause-sits : goal.take-requires-clause-sits
-take-requires-clause-sits g c = sits_read g.M.SavingMachine.stands c.args.member.now c.args.place.now.seat.me c.look-word.new.place.seat.me _ _ c.requires.sits c.look-word.ensures.found
+take-requires-clause-sits g c = sits_read g.M.SavingMachine.represents c.args.member.now c.args.place.now.seat.me c.look-word.new.place.seat.me _ _ c.requires.sits c.look-word.ensures.found
 
 pub returns-then-ne-clause-missed : goal.returns-then-ne-clause-missed
-returns-then-ne-clause-missed g c = λ off. sits_read g.M.SavingMachine.stands c.args.member.now c.args.place.now.seat.me c.look-word.new.place.seat.me _ _ c.requires.sits c.look-word.ensures.found
+returns-then-ne-clause-missed g c = λ off. sits_read g.M.SavingMachine.represents c.args.member.now c.args.place.now.seat.me c.look-word.new.place.seat.me _ _ c.requires.sits c.look-word.ensures.found

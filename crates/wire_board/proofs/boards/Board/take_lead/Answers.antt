@@ -11,22 +11,22 @@ take-requires-clause-rests g c =
     let s = c.requires.sits.1 in
     let lead = c.args.lead.now in
     let about = c.args.self.now.table.table.shared.key.about in
-    let stands = g.M.SavingMachine.stands in (
+    let represents = g.M.SavingMachine.represents in (
       Lead lead,
       Lead s.was,
       c.requires.sits.0,
       refl,
       s.rests,
       s.number,
-      carries_stays stands about.failures.value.items about.done.value.items (standing_parts about.machines about.opening.value) about.machines s.was lead s.number s.stays,
-      learnt_lead stands about.failures.value.items about.done.value.items (standing_parts about.machines about.opening.value) about.machines lead c.args.link,
+      carries_stays represents about.failures.value.items about.done.value.items (standing_parts about.machines about.opening.value) about.machines s.was lead s.number s.stays,
+      learnt_lead represents about.failures.value.items about.done.value.items (standing_parts about.machines about.opening.value) about.machines lead c.args.link,
     )
 
 pub returns-clause-taken : goal.returns-clause-taken
 returns-clause-taken g c =
     λ same others s.
     let t = c.take.ensures.taken same (Lead c.args.lead.now) refl in
-    lead_has_taken c.args.lead.now others g.M.SavingMachine.stands c.args.place.now.seat.me c.take.new.place.seat.me (Lead s.was) c.args.link t.0 _ s.rests t.1 t.2
+    lead_has_taken c.args.lead.now others g.M.SavingMachine.represents c.args.place.now.seat.me c.take.new.place.seat.me (Lead s.was) c.args.link t.0 _ s.rests t.1 t.2
 
 pub returns-clause-missed : goal.returns-clause-missed
 returns-clause-missed g c = λ off others s. leads_read c.args.lead.now others c.args.place.now.seat.me c.take.new.place.seat.me _ _ s (c.take.ensures.missed off)

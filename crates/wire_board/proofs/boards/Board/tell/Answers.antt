@@ -18,20 +18,20 @@ returns-then-not-waits-clause-nothing g c =
 
 pub give_back-requires-clause-holds : goal.give_back-requires-clause-holds
 give_back-requires-clause-holds g c =
-    let stands = g.M.SavingMachine.stands in
+    let represents = g.M.SavingMachine.represents in
     let about = c.args.self.now.table.table.shared.key.about in
     let member = c.args.member.now in
     let t = c.take_home.ensures.taken c.if-not-take_home.false in
-    let is : t.queue ≡ c.exchange-queue.result = queue_is stands member c.take_home.new.place.seat.me c.exchange-queue.new.place.seat.me c.link-link.result _ c.exchange-queue.result t c.exchange-queue.ensures.now c.exchange-queue.ensures.was in
+    let is : t.queue ≡ c.exchange-queue.result = queue_is represents member c.take_home.new.place.seat.me c.exchange-queue.new.place.seat.me c.link-link.result _ c.exchange-queue.result t c.exchange-queue.ensures.now c.exchange-queue.ensures.was in
     let told = c.tell_all-told.ensures in
     let after : Member g.row.M.Denot = record { number = member.number; peers = member.peers; machine = c.tell_all-told.new.machine } in (
       member,
       t.queue,
       _,
-      holds_now stands member c.take_home.new.place.seat.me c.exchange-queue.new.place.seat.me c.link-link.result _ c.exchange-queue.result t c.exchange-queue.ensures.now c.exchange-queue.ensures.was,
+      holds_now represents member c.take_home.new.place.seat.me c.exchange-queue.new.place.seat.me c.link-link.result _ c.exchange-queue.result t c.exchange-queue.ensures.now c.exchange-queue.ensures.was,
       refl,
-      subst (λ (i : ℕ). CarriesLink number_of (HasBeenLed stands about.failures.value.items about.done.value.items (standing_parts about.machines about.opening.value) about.machines) i (Node (at_rest member)) t.queue (Node (at_rest after)) c.tell_all-told.new.queue) (sym c.link-link.ensures.number)
-          (carries_told stands about.failures.value.items about.done.value.items (standing_parts about.machines about.opening.value) about.machines member after refl refl t.queue c.tell_all-told.new.queue c.args.to.0 c.requires.to.0 told.0
+      subst (λ (i : ℕ). CarriesLink number_of (HasBeenLed represents about.failures.value.items about.done.value.items (standing_parts about.machines about.opening.value) about.machines) i (Node (at_rest member)) t.queue (Node (at_rest after)) c.tell_all-told.new.queue) (sym c.link-link.ensures.number)
+          (carries_told represents about.failures.value.items about.done.value.items (standing_parts about.machines about.opening.value) about.machines member after refl refl t.queue c.tell_all-told.new.queue c.args.to.0 c.requires.to.0 told.0
           (told.1 ∙ ap (λ (l : LinkView). l.messages ++ told.0) (sym is)) told.2),
     )
 

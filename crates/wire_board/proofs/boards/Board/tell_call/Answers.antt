@@ -20,21 +20,21 @@ exchange-queue-requires-clause-holds g c =
 
 pub give_back_lead-requires-clause-holds : goal.give_back_lead-requires-clause-holds
 give_back_lead-requires-clause-holds g c =
-    let stands = g.M.SavingMachine.stands in
+    let represents = g.M.SavingMachine.represents in
     let about = c.args.self.now.table.table.shared.key.about in
     let lead = c.args.lead.now in
     let others = c.requires.sits.0 in
     let t = c.take_home_lead.ensures.taken c.if-not-take_home_lead.false others c.requires.sits.1 in
-    let is : t.queue ≡ c.exchange-queue.result = lead_queue_is lead others stands c.take_home_lead.new.place.seat.me c.exchange-queue.new.place.seat.me c.link-link.result _ c.exchange-queue.result t c.exchange-queue.ensures.now c.exchange-queue.ensures.was in
+    let is : t.queue ≡ c.exchange-queue.result = lead_queue_is lead others represents c.take_home_lead.new.place.seat.me c.exchange-queue.new.place.seat.me c.link-link.result _ c.exchange-queue.result t c.exchange-queue.ensures.now c.exchange-queue.ensures.was in
     let after : Leading = record { number = lead.number; coordinator = c.tell_one-told.new.coordinator } in
     let r : LinkView = c.tell_one-told.new.queue in
-    let carried : CarriesLink number_of (HasBeenLed stands about.failures.value.items about.done.value.items (standing_parts about.machines about.opening.value) about.machines) (link_no (suc lead.number) lead.number c.args.to.0) (Lead lead) t.queue (Lead after) r =
+    let carried : CarriesLink number_of (HasBeenLed represents about.failures.value.items about.done.value.items (standing_parts about.machines about.opening.value) about.machines) (link_no (suc lead.number) lead.number c.args.to.0) (Lead lead) t.queue (Lead after) r =
     ⊎_elim
     (λ (one : (message : Message) × (r.messages ≡ c.exchange-queue.result.messages ++ message_view message ∷ []) × HasHandedOver lead.coordinator after.coordinator c.args.to.0 (Some message)).
-    carries_call_told stands about.failures.value.items about.done.value.items (standing_parts about.machines about.opening.value) about.machines lead after refl c.args.to.0 c.requires.to t.queue r one.0
+    carries_call_told represents about.failures.value.items about.done.value.items (standing_parts about.machines about.opening.value) about.machines lead after refl c.args.to.0 c.requires.to t.queue r one.0
     (one.1 ∙ ap (λ (l : LinkView). l.messages ++ message_view one.0 ∷ []) (sym is)) one.2)
     (λ (still : (r.messages ≡ c.exchange-queue.result.messages) × StaysCoordinator lead.coordinator after.coordinator).
-    carries_no_call stands about.failures.value.items about.done.value.items (standing_parts about.machines about.opening.value) about.machines lead after refl c.args.to.0 c.requires.to t.queue r
+    carries_no_call represents about.failures.value.items about.done.value.items (standing_parts about.machines about.opening.value) about.machines lead after refl c.args.to.0 c.requires.to t.queue r
     (still.0 ∙ ap (λ (l : LinkView). l.messages) (sym is)) still.1)
     c.tell_one-told.ensures.both
     in (
@@ -42,9 +42,9 @@ give_back_lead-requires-clause-holds g c =
       others,
       t.queue,
       _,
-      lead_holds_now lead others stands c.take_home_lead.new.place.seat.me c.exchange-queue.new.place.seat.me c.link-link.result _ c.exchange-queue.result t c.exchange-queue.ensures.now c.exchange-queue.ensures.was,
+      lead_holds_now lead others represents c.take_home_lead.new.place.seat.me c.exchange-queue.new.place.seat.me c.link-link.result _ c.exchange-queue.result t c.exchange-queue.ensures.now c.exchange-queue.ensures.was,
       refl,
-      subst (λ (i : ℕ). CarriesLink number_of (HasBeenLed stands about.failures.value.items about.done.value.items (standing_parts about.machines about.opening.value) about.machines) i (Lead lead) t.queue (Lead after) r)
+      subst (λ (i : ℕ). CarriesLink number_of (HasBeenLed represents about.failures.value.items about.done.value.items (standing_parts about.machines about.opening.value) about.machines) i (Lead lead) t.queue (Lead after) r)
           (sym (c.link-link.ensures.number ∙ ap (λ (k : ℕ). link_no k lead.number c.args.to.0) (add-one lead.number))) carried,
     )
 
@@ -54,7 +54,7 @@ returns-then-branch-clause-sits g c =
     let lead = c.args.lead.now in
     let t = c.take_home_lead.ensures.taken c.if-not-take_home_lead.false others s in
     c.give_back_lead.ensures.sits lead others t.queue _
-    (lead_holds_now lead others g.M.SavingMachine.stands c.take_home_lead.new.place.seat.me c.exchange-queue.new.place.seat.me c.link-link.result _ c.exchange-queue.result t c.exchange-queue.ensures.now c.exchange-queue.ensures.was)
+    (lead_holds_now lead others g.M.SavingMachine.represents c.take_home_lead.new.place.seat.me c.exchange-queue.new.place.seat.me c.link-link.result _ c.exchange-queue.result t c.exchange-queue.ensures.now c.exchange-queue.ensures.was)
 
 pub returns-else-branch-clause-sits : goal.returns-else-branch-clause-sits
 returns-else-branch-clause-sits g c =
@@ -62,7 +62,7 @@ returns-else-branch-clause-sits g c =
     let lead = c.args.lead.now in
     let t = c.take_home_lead.ensures.taken c.if-not-take_home_lead.false others s in
     c.give_back_lead.ensures.sits lead others t.queue _
-    (lead_holds_now lead others g.M.SavingMachine.stands c.take_home_lead.new.place.seat.me c.exchange-queue.new.place.seat.me c.link-link.result _ c.exchange-queue.result t c.exchange-queue.ensures.now c.exchange-queue.ensures.was)
+    (lead_holds_now lead others g.M.SavingMachine.represents c.take_home_lead.new.place.seat.me c.exchange-queue.new.place.seat.me c.link-link.result _ c.exchange-queue.result t c.exchange-queue.ensures.now c.exchange-queue.ensures.was)
 
 pub returns-in_err-told-clause-sits : goal.returns-in_err-told-clause-sits
 returns-in_err-told-clause-sits g c =
@@ -70,7 +70,7 @@ returns-in_err-told-clause-sits g c =
     let lead = c.args.lead.now in
     let t = c.take_home_lead.ensures.taken c.if-not-take_home_lead.false others s in
     c.give_back_lead.ensures.sits lead others t.queue _
-    (lead_holds_now lead others g.M.SavingMachine.stands c.take_home_lead.new.place.seat.me c.exchange-queue.new.place.seat.me c.link-link.result _ c.exchange-queue.result t c.exchange-queue.ensures.now c.exchange-queue.ensures.was)
+    (lead_holds_now lead others g.M.SavingMachine.represents c.take_home_lead.new.place.seat.me c.exchange-queue.new.place.seat.me c.link-link.result _ c.exchange-queue.result t c.exchange-queue.ensures.now c.exchange-queue.ensures.was)
 
 pub returns-then-not-waits-clause-nothing : goal.returns-then-not-waits-clause-nothing
 returns-then-not-waits-clause-nothing g c = λ same. inl (sym c.waits.ensures ∙ c.if-not-waits.true)

@@ -13,20 +13,20 @@ returns-then-not-take_home-clause-sits g c = c.take_home.ensures.missed c.if-not
 
 pub give_back-requires-clause-holds : goal.give_back-requires-clause-holds
 give_back-requires-clause-holds g c =
-    let stands = g.M.SavingMachine.stands in
+    let represents = g.M.SavingMachine.represents in
     let about = c.args.self.now.table.table.shared.key.about in
     let member = c.args.member.now in
     let t = c.take_home.ensures.taken c.if-not-take_home.false in
-    let is : t.queue ≡ c.exchange-queue.result = queue_is stands member c.take_home.new.place.seat.me c.exchange-queue.new.place.seat.me c.link-link.result _ c.exchange-queue.result t c.exchange-queue.ensures.now c.exchange-queue.ensures.was in
+    let is : t.queue ≡ c.exchange-queue.result = queue_is represents member c.take_home.new.place.seat.me c.exchange-queue.new.place.seat.me c.link-link.result _ c.exchange-queue.result t c.exchange-queue.ensures.now c.exchange-queue.ensures.was in
     let after : Member g.row.M.Denot = record { number = member.number; peers = member.peers; machine = c.tell_first-told.new.machine } in
     let inside = c.requires.inside in
     let last : suc (member.peers - 1) ≡ member.peers = omega arith in (
       member,
       t.queue,
       _,
-      holds_now stands member c.take_home.new.place.seat.me c.exchange-queue.new.place.seat.me c.link-link.result _ c.exchange-queue.result t c.exchange-queue.ensures.now c.exchange-queue.ensures.was,
+      holds_now represents member c.take_home.new.place.seat.me c.exchange-queue.new.place.seat.me c.link-link.result _ c.exchange-queue.result t c.exchange-queue.ensures.now c.exchange-queue.ensures.was,
       refl,
-      subst (λ (i : ℕ). CarriesLink number_of (HasBeenLed stands about.failures.value.items about.done.value.items (standing_parts about.machines about.opening.value) about.machines) i (Node (at_rest member)) t.queue (Node (at_rest after)) c.tell_first-told.new.queue) (sym c.link-link.ensures.number)
-          (carries_report stands about.failures.value.items about.done.value.items (standing_parts about.machines about.opening.value) about.machines member after refl refl t.queue c.tell_first-told.new.queue (member.peers - 1) last
-          (subst (λ (l : LinkView). HasToldFirst stands member.machine l.messages c.tell_first-told.new.queue.messages after.machine) (sym is) c.tell_first-told.ensures.both)),
+      subst (λ (i : ℕ). CarriesLink number_of (HasBeenLed represents about.failures.value.items about.done.value.items (standing_parts about.machines about.opening.value) about.machines) i (Node (at_rest member)) t.queue (Node (at_rest after)) c.tell_first-told.new.queue) (sym c.link-link.ensures.number)
+          (carries_report represents about.failures.value.items about.done.value.items (standing_parts about.machines about.opening.value) about.machines member after refl refl t.queue c.tell_first-told.new.queue (member.peers - 1) last
+          (subst (λ (l : LinkView). HasToldFirst represents member.machine l.messages c.tell_first-told.new.queue.messages after.machine) (sym is) c.tell_first-told.ensures.both)),
     )

@@ -5,12 +5,12 @@ use Rattle.cluster_step.proofs.clusters.Stopping.{answer_runs}
 use Rattle.cluster_step.proofs.clusters.clusters.SnapCluster.apply.Goals as goal
 
 pub invariant_of-self : goal.invariant_of-self
-invariant_of-self g c = some_after g.M.SavingMachine.stands c.self.inside.parts c.self.invariant c.args.event c.make.result c.make.new.self c.make.ensures
+invariant_of-self g c = some_after g.M.SavingMachine.represents c.self.inside.parts c.self.invariant c.args.event c.make.result c.make.new.self c.make.ensures
 
 pub returns-clause-machines : goal.returns-clause-machines
 returns-clause-machines g c =
-    many_after g.M.SavingMachine.stands c.self.inside.parts c.self.invariant c.args.event c.make.result c.make.new.self c.make.ensures
+    many_after g.M.SavingMachine.represents c.self.inside.parts c.self.invariant c.args.event c.make.result c.make.new.self c.make.ensures
     ∙ ap (λ p. length p.machines.items) c.self.view_is
 
 pub returns-clause-stopped : goal.returns-clause-stopped
-returns-clause-stopped g c = λ none. answer_runs g.M.SavingMachine.stands c.self.inside.parts c.make.new.self c.self.invariant c.args.event none c.make.result c.make.ensures ∙ ap (λ p. p.stopped) c.self.view_is
+returns-clause-stopped g c = λ none. answer_runs g.M.SavingMachine.represents c.self.inside.parts c.make.new.self c.self.invariant c.args.event none c.make.result c.make.ensures ∙ ap (λ p. p.stopped) c.self.view_is

@@ -9,5 +9,5 @@ use Rattle.cluster_step.proofs.clusters.clusters.SnapCluster.call_waits.Goals as
 pub returns : goal.returns
 returns g c =
     let within = subst (λ p. c.args.to.0 < length p.machines.items) (sym c.self.view_is) c.requires in
-    subst (λ p. InEachCluster g.M.SavingMachine.stands p (λ st own. IsTrue c.waits.result ↔ HasNext (own.coordinator.out c.args.to.0))) c.self.view_is
-    (at_coordinator g.M.SavingMachine.stands c.self.inside.parts c.args.to.0 within c.waits.result c.waits.ensures)
+    subst (λ p. InEachCluster g.M.SavingMachine.represents p (λ st own. IsTrue c.waits.result ↔ HasNext (own.coordinator.out c.args.to.0))) c.self.view_is
+    (at_coordinator g.M.SavingMachine.represents c.self.inside.parts c.args.to.0 within c.waits.result c.waits.ensures)

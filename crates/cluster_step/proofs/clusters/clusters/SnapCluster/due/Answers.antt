@@ -6,4 +6,4 @@ use Rattle.cluster_step.proofs.clusters.clusters.SnapCluster.due.Goals as goal
 
 pub returns-clause-ended : goal.returns-clause-ended
 returns-clause-ended g c = λ ended st own setting of.
-    finished g.M.SavingMachine.stands c.self.inside.parts st own setting (subst (λ p. IsSavingClusterOf g.M.SavingMachine.stands st p own) (sym c.self.view_is) of) c.due.result c.due.ensures.due ended
+    finished g.M.SavingMachine.represents c.self.inside.parts st own setting (subst (λ p. IsSavingClusterOf g.M.SavingMachine.represents st p own) (sym c.self.view_is) of) c.due.result c.due.ensures.due ended

@@ -9,5 +9,5 @@ use Rattle.cluster_step.proofs.clusters.clusters.SnapCluster.has_call.Goals as g
 pub returns : goal.returns
 returns g c =
     let within = subst (λ p. c.args.to.0 < length p.machines.items) (sym c.self.view_is) c.requires in
-    subst (λ p. InEachCluster g.M.SavingMachine.stands p (λ st own. IsTrue c.has_message.result ↔ HasNext (own.calls c.args.to.0))) c.self.view_is
-    (on_call g.M.SavingMachine.stands c.self.inside.parts c.lead.result.0 c.lead.ensures c.args.to.0 within c.has_message.result c.has_message.ensures)
+    subst (λ p. InEachCluster g.M.SavingMachine.represents p (λ st own. IsTrue c.has_message.result ↔ HasNext (own.calls c.args.to.0))) c.self.view_is
+    (on_call g.M.SavingMachine.represents c.self.inside.parts c.lead.result.0 c.lead.ensures c.args.to.0 within c.has_message.result c.has_message.ensures)

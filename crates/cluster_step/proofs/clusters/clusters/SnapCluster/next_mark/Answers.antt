@@ -9,4 +9,4 @@ use Rattle.cluster_step.proofs.clusters.clusters.SnapCluster.next_mark.Goals as 
 
 pub returns-clause-none : goal.returns-clause-none
 returns-clause-none g c =
-    subst (λ p. IfNone c.next_mark.result ((s : ScopeId) → s.home ≡ c.args.at → CanNotTakePlace g.M.SavingMachine.stands p (event.Local (local.Mark s)))) c.self.view_is c.next_mark.ensures.none
+    subst (λ p. IfNone c.next_mark.result ((s : ScopeId) → s.home ≡ c.args.at → CanNotTakePlace g.M.SavingMachine.represents p (event.Local (local.Mark s)))) c.self.view_is c.next_mark.ensures.none

@@ -9,4 +9,4 @@ use Rattle.cluster_step.proofs.clusters.clusters.SnapCluster.next_update.Goals a
 
 pub returns-clause-none : goal.returns-clause-none
 returns-clause-none g c =
-    subst (λ p. IfNone c.next_update.result ((s : ScopeId) → s.home ≡ c.args.at → CanNotTakePlace g.M.SavingMachine.stands p (event.Local (local.Update s)))) c.self.view_is c.next_update.ensures.none
+    subst (λ p. IfNone c.next_update.result ((s : ScopeId) → s.home ≡ c.args.at → CanNotTakePlace g.M.SavingMachine.represents p (event.Local (local.Update s)))) c.self.view_is c.next_update.ensures.none

@@ -9,5 +9,5 @@ use Rattle.cluster_step.proofs.clusters.parts.Parts.begin.Goals as goal
 
 pub returns : goal.returns
 returns g c =
-    led_answers g.M.SavingMachine.stands c.args.self.now c.requires.runs (event.Lead lead.Begin) law.PutBegin refl (λ e is. is) (λ base is. cc) (λ st. begins_snapshot) (λ st k. refl)
+    led_answers g.M.SavingMachine.represents c.args.self.now c.requires.runs (event.Lead lead.Begin) law.PutBegin refl (λ e is. is) (λ base is. cc) (λ st. begins_snapshot) (λ st k. refl)
     c.begin.result c.begin.new.self c.begin.ensures.begun c.begin.ensures.not_now c.begin.ensures.no_memory c.begin.ensures.unchanged

@@ -6,12 +6,12 @@ use Rattle.cluster_step.proofs.clusters.parts.Parts.make.Goals.{then-self-via-th
 
 pub returns-then-self : goal.returns-then-self
 returns-then-self g c = elim c.then-self.branch [
-  | then-self-via-then-self w ↦ stopped_answers g.M.SavingMachine.stands c.args.self.now c.args.event w.if-self.true
-  | then-self-via-else-self+then-rests w ↦ rest_answers g.M.SavingMachine.stands c.args.self.now c.args.event (sym w.rests.ensures ∙ w.if-rests.true)
+  | then-self-via-then-self w ↦ stopped_answers g.M.SavingMachine.represents c.args.self.now c.args.event w.if-self.true
+  | then-self-via-else-self+then-rests w ↦ rest_answers g.M.SavingMachine.represents c.args.self.now c.args.event (sym w.rests.ensures ∙ w.if-rests.true)
 ]
 
 pub make_local-requires-clause-few : goal.make_local-requires-clause-few
-make_local-requires-clause-few g c = few_here g.M.SavingMachine.stands c.args.self.now c.requires.some
+make_local-requires-clause-few g c = few_here g.M.SavingMachine.represents c.args.self.now c.requires.some
 
 pub make_local-requires-clause-flags : goal.make_local-requires-clause-flags
-make_local-requires-clause-flags g c = flags_here g.M.SavingMachine.stands c.args.self.now c.requires.some
+make_local-requires-clause-flags g c = flags_here g.M.SavingMachine.represents c.args.self.now c.requires.some

@@ -5,7 +5,7 @@ use Rattle.cluster_step.proofs.clusters.Cutting.{record_cuts}
 use Rattle.cluster_step.proofs.clusters.parts.Parts.record.Goals as goal
 
 pub returns-clause-cut : goal.returns-clause-cut
-returns-clause-cut g c = record_cuts g.M.SavingMachine.stands c.args.self.now c.record.result c.record.ensures.due c.record.ensures.made
+returns-clause-cut g c = record_cuts g.M.SavingMachine.represents c.args.self.now c.record.result c.record.ensures.due c.record.ensures.made
 
 pub returns-clause-ready : goal.returns-clause-ready
 returns-clause-ready g c = ready_so _ c.record.result (search rules) c.record.ensures.ready

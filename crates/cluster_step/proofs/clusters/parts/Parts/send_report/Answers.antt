@@ -9,29 +9,29 @@ use Rattle.cluster_step.proofs.clusters.parts.Parts.send_report.Goals as goal
 
 pub returns-then-not-has_report : goal.returns-then-not-has_report
 returns-then-not-has_report g c =
-    report_none g.M.SavingMachine.stands c.args.self.now c.requires.runs c.args.from c.requires.within c.lead-lead.result c.lead-lead.ensures c.requires.awake c.index_mut-machine.result.now c.index_mut-machine.ensures.value _
+    report_none g.M.SavingMachine.represents c.args.self.now c.requires.runs c.args.from c.requires.within c.lead-lead.result c.lead-lead.ensures c.requires.awake c.index_mut-machine.result.now c.index_mut-machine.ensures.value _
     (λ st a m setting here first. let waits = (c.has_report.ensures st a m setting here).1 first in absurd (search rules))
-    (still_alone g.M.SavingMachine.stands c.args.self.now c.requires.runs c.args.from.0 c.requires.within c.requires.awake c.index_mut-machine.result.now c.index_mut-machine.ensures.value c.index_mut-machine.result.now (λ st a m setting here. here))
+    (still_alone g.M.SavingMachine.represents c.args.self.now c.requires.runs c.args.from.0 c.requires.within c.requires.awake c.index_mut-machine.result.now c.index_mut-machine.ensures.value c.index_mut-machine.result.now (λ st a m setting here. here))
 
 pub returns-then-is_err : goal.returns-then-is_err
 returns-then-is_err g c =
     let has = (subst (λ n. HasLinkBetween c.args.self.now.links c.args.from.0 n) (sym c.lead-lead.ensures) c.requires.links) in
-    report_full g.M.SavingMachine.stands c.args.self.now c.requires.runs c.args.from c.requires.within c.lead-lead.result c.lead-lead.ensures c.requires.awake c.index_mut-machine.result.now c.index_mut-machine.ensures.value _
+    report_full g.M.SavingMachine.represents c.args.self.now c.requires.runs c.args.from c.requires.within c.lead-lead.result c.lead-lead.ensures c.requires.awake c.index_mut-machine.result.now c.index_mut-machine.ensures.value _
     (λ st a m setting here. (c.has_report.ensures st a m setting here).0 (search rules))
-    (still_here g.M.SavingMachine.stands c.args.self.now c.requires.runs c.args.from.0 c.requires.within c.requires.awake c.index_mut-machine.result.now c.index_mut-machine.ensures.value c.index_mut-machine.result.now (λ st a m setting here. here) c.reserve.new.self
-    (links_stay c.args.self.now.links c.args.from.0 c.lead-lead.result.0 has c.reserve.new.self c.reserve.ensures.rest) (kept_lines g.M.SavingMachine.stands c.args.self.now c.requires.runs c.args.from.0 c.lead-lead.result.0 has c.reserve.new.self c.reserve.ensures.same c.reserve.ensures.rest))
+    (still_here g.M.SavingMachine.represents c.args.self.now c.requires.runs c.args.from.0 c.requires.within c.requires.awake c.index_mut-machine.result.now c.index_mut-machine.ensures.value c.index_mut-machine.result.now (λ st a m setting here. here) c.reserve.new.self
+    (links_stay c.args.self.now.links c.args.from.0 c.lead-lead.result.0 has c.reserve.new.self c.reserve.ensures.rest) (kept_lines g.M.SavingMachine.represents c.args.self.now c.requires.runs c.args.from.0 c.lead-lead.result.0 has c.reserve.new.self c.reserve.ensures.same c.reserve.ensures.rest))
 
 pub returns-in_default : goal.returns-in_default
 returns-in_default g c =
     let has = (subst (λ n. HasLinkBetween c.args.self.now.links c.args.from.0 n) (sym c.lead-lead.ensures) c.requires.links) in
-    report_none g.M.SavingMachine.stands c.args.self.now c.requires.runs c.args.from c.requires.within c.lead-lead.result c.lead-lead.ensures c.requires.awake c.index_mut-machine.result.now c.index_mut-machine.ensures.value _
+    report_none g.M.SavingMachine.represents c.args.self.now c.requires.runs c.args.from c.requires.within c.lead-lead.result c.lead-lead.ensures c.requires.awake c.index_mut-machine.result.now c.index_mut-machine.ensures.value _
     (λ st a m setting here first. let none = if_none c.report_take.result c.in_default.is c.report_take.ensures.none st a m setting here in let is = first.first in absurd (cc (none, is)))
-    (still_here g.M.SavingMachine.stands c.args.self.now c.requires.runs c.args.from.0 c.requires.within c.requires.awake c.index_mut-machine.result.now c.index_mut-machine.ensures.value c.report_take.new.self (if_none c.report_take.result c.in_default.is c.report_take.ensures.unchanged) c.reserve.new.self
-    (links_stay c.args.self.now.links c.args.from.0 c.lead-lead.result.0 has c.reserve.new.self c.reserve.ensures.rest) (kept_lines g.M.SavingMachine.stands c.args.self.now c.requires.runs c.args.from.0 c.lead-lead.result.0 has c.reserve.new.self c.reserve.ensures.same c.reserve.ensures.rest))
+    (still_here g.M.SavingMachine.represents c.args.self.now c.requires.runs c.args.from.0 c.requires.within c.requires.awake c.index_mut-machine.result.now c.index_mut-machine.ensures.value c.report_take.new.self (if_none c.report_take.result c.in_default.is c.report_take.ensures.unchanged) c.reserve.new.self
+    (links_stay c.args.self.now.links c.args.from.0 c.lead-lead.result.0 has c.reserve.new.self c.reserve.ensures.rest) (kept_lines g.M.SavingMachine.represents c.args.self.now c.requires.runs c.args.from.0 c.lead-lead.result.0 has c.reserve.new.self c.reserve.ensures.same c.reserve.ensures.rest))
 
 pub returns : goal.returns
 returns g c =
     let has = (subst (λ n. HasLinkBetween c.args.self.now.links c.args.from.0 n) (sym c.lead-lead.ensures) c.requires.links) in
-    report_answers g.M.SavingMachine.stands c.args.self.now c.requires.runs c.args.from c.requires.within c.lead-lead.result c.lead-lead.ensures c.requires.awake c.index_mut-machine.result.now c.index_mut-machine.ensures.value c.report_take.new.self c.in-Some.message c.push.new.self
-    (links_after g.M.SavingMachine.stands c.args.self.now c.requires.runs c.args.from.0 c.lead-lead.result.0 has c.reserve.new.self c.push.new.self c.reserve.ensures.rest c.push.ensures.rest) c.in-Some.ensures.taken
-    (pushed_line g.M.SavingMachine.stands c.args.self.now c.requires.runs c.args.from.0 c.lead-lead.result.0 has c.reserve.new.self c.reserve.ensures.same c.reserve.ensures.rest (message_view c.in-Some.message) c.push.new.self c.push.ensures.last c.push.ensures.rest)
+    report_answers g.M.SavingMachine.represents c.args.self.now c.requires.runs c.args.from c.requires.within c.lead-lead.result c.lead-lead.ensures c.requires.awake c.index_mut-machine.result.now c.index_mut-machine.ensures.value c.report_take.new.self c.in-Some.message c.push.new.self
+    (links_after g.M.SavingMachine.represents c.args.self.now c.requires.runs c.args.from.0 c.lead-lead.result.0 has c.reserve.new.self c.push.new.self c.reserve.ensures.rest c.push.ensures.rest) c.in-Some.ensures.taken
+    (pushed_line g.M.SavingMachine.represents c.args.self.now c.requires.runs c.args.from.0 c.lead-lead.result.0 has c.reserve.new.self c.reserve.ensures.same c.reserve.ensures.rest (message_view c.in-Some.message) c.push.new.self c.push.ensures.last c.push.ensures.rest)

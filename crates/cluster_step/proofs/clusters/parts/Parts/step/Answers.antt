@@ -9,5 +9,5 @@ use Rattle.cluster_step.proofs.clusters.parts.Parts.step.Goals as goal
 
 pub returns : goal.returns
 returns g c =
-    led_answers g.M.SavingMachine.stands c.args.self.now c.requires.runs (event.Lead lead.Step) law.PutStep refl (λ e is. is) (λ base is. cc) puts_step (λ st k. refl)
+    led_answers g.M.SavingMachine.represents c.args.self.now c.requires.runs (event.Lead lead.Step) law.PutStep refl (λ e is. is) (λ base is. cc) puts_step (λ st k. refl)
     c.step.result c.step.new.self c.step.ensures.put_out c.step.ensures.not_now c.step.ensures.no_memory c.step.ensures.unchanged

@@ -9,5 +9,5 @@ use Rattle.cluster_step.proofs.clusters.parts.Parts.wave.Goals as goal
 
 pub returns : goal.returns
 returns g c =
-    led_answers g.M.SavingMachine.stands c.args.self.now c.requires.runs (event.Lead lead.Wave) law.PutWave refl (λ e is. is) (λ base is. cc) (λ st. puts_wave) (λ st k. refl)
+    led_answers g.M.SavingMachine.represents c.args.self.now c.requires.runs (event.Lead lead.Wave) law.PutWave refl (λ e is. is) (λ base is. cc) (λ st. puts_wave) (λ st k. refl)
     c.wave.result c.wave.new.self c.wave.ensures.put_out c.wave.ensures.not_now c.wave.ensures.no_memory c.wave.ensures.unchanged

@@ -1,5 +1,5 @@
 use Rattle.std.proofs.Common.{subst}
-use Rattle.store.specs.store_format.Stores.{StandsFor, stored_in}
+use Rattle.store.specs.store_format.Stores.{DecodesTo, stored_in}
 use Rattle.store.proofs.store_format.StoreLemmas.{stands_of}
 use Rattle.store.proofs.snap_journal.AppendLemmas.{found_settled, settled_leaves}
 use Rattle.store.proofs.snap_journal.journal.Journal.open.Goals as goal
@@ -16,4 +16,4 @@ returns-in-Ok-clause-stands g c = λ told.
     let header = c.args.header.now in
     let seen = (g.D.Disk.past c.synced_and_read.new.disk).now.seen in
     let found = c.in-Ok.ensures.found told in
-    subst (StandsFor header (stored_in header seen)) (c.in-Ok.ensures.bytes told) (stands_of header seen found.reads)
+    subst (DecodesTo header (stored_in header seen)) (c.in-Ok.ensures.bytes told) (stands_of header seen found.reads)

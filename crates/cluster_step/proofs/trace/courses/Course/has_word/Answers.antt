@@ -1,9 +1,0 @@
--- What is so of each cluster is so in each course.
-use Rattle.std.proofs.Common.{◌≡◌, false}
-use Rattle.std.specs.Prelude.{◌↔◌}
-use Rattle.call_laws.specs.whole_calls.Telling.{HasNoWordAt}
-use Rattle.cluster_step.proofs.trace.Calling.{in_course}
-use Rattle.cluster_step.proofs.trace.courses.Course.has_word.Goals as goal
-
-pub returns : goal.returns
-returns g c = in_course g.M.SavingMachine.stands _ c.args.self.now c.self.view_is (λ st x. (c.has_word.result ≡ false) ↔ HasNoWordAt x c.args.at.0) c.has_word.ensures

@@ -1,6 +1,0 @@
--- The budget is the tickets that are left and the updates that were made.
-use Rattle.cluster_step.proofs.trace.Calling.{left_is}
-use Rattle.cluster_step.proofs.trace.courses.Course.left.Goals as goal
-
-pub returns : goal.returns
-returns g c = left_is g.M.SavingMachine.stands _ c.args.self.now c.self.view_is c.left.result c.left.ensures

@@ -1,6 +1,0 @@
--- Each course makes a call.
-use Rattle.cluster_step.proofs.trace.Calling.{makes_call}
-use Rattle.cluster_step.proofs.trace.courses.Course.machines.Goals as goal
-
-pub returns-clause-call : goal.returns-clause-call
-returns-clause-call g c = λ st o events cluster is. makes_call g.M.SavingMachine.stands c.args.self.now st o events cluster is

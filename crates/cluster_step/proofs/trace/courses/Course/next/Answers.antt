@@ -1,7 +1,0 @@
--- What is so of each cluster is so in each course.
-use Rattle.std.proofs.Common.{◌≡◌}
-use Rattle.cluster_step.proofs.trace.Calling.{in_course}
-use Rattle.cluster_step.proofs.trace.courses.Course.next.Goals as goal
-
-pub returns : goal.returns
-returns g c = in_course g.M.SavingMachine.stands _ c.args.self.now c.self.view_is (λ st x. c.next.result ≡ x.next) c.next.ensures

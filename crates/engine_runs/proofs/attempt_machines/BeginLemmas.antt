@@ -1,0 +1,88 @@
+-- Machines that were made for an attempt begin it in the course of a call.
+use Rattle.std.proofs.Common.{◌≡◌, ◌⊎◌, ◌+◌, ◌*◌, ◌<◌, ℕ, Bool, true, false, List, [], length, refl, sym, ap, ◌∙◌, subst, arith}
+use Rattle.gl_base.specs.declared.jobs.FailureAt.{FailureAt}
+use Rattle.gl_base.specs.declared.snapshots.Base.{Base}
+use Rattle.cluster_step.proofs.trace.Going.{setting_now}
+use Rattle.cluster_step.specs.trace.Traces.{first_setting}
+use Rattle.cluster_laws.specs.cluster_model.Events as law
+use Rattle.cluster_laws.specs.cluster_model.Totals.{total}
+use Rattle.cluster_laws.specs.cluster_core.Settings as settings
+use Rattle.coordinator.specs.declared.coord_core.steps.Engine.TheVariants.{Chromatic, Locking}
+use Rattle.graph_core.specs.DataGraph.{DataGraph, size}
+use Rattle.recovery.proofs.opened_store.OpenLemmas.{opens_from}
+use Rattle.placed_machines.specs.declared.placing.SavingRun.{SavingRun}
+use Rattle.update_api.specs.Updates.{Update}
+use Rattle.snapshot_machines.proofs.wave_counts.CountLemmas.{total_from-nothing}
+use Rattle.call_laws.specs.whole_calls.Following.{AreJobFailures, has_reached}
+use Rattle.call_laws.proofs.whole_calls.Leading.{behind_since}
+use Rattle.engine_runs.specs.attempt_machines.Beginning.{AreAnyMachinesOf, BaseView, CallOpening, Cluster, TraceView, Engine, AnyMachine, GoesBackWith, IsTraceNow, IsEngineOf, IsAnyMachineOf, IsGoodBase, IsSavingRunOf, IsSnapSetting, RunsBy, Setting, StartsCall, StoreView, base_opened, cluster_before, newest_setting, opening_from, shared_of, store_from, ticket_above}
+
+none_more : (n failed : ℕ) → failed ≡ 0 → n + 16 * failed ≡ n
+none_more n failed none = omega (arith, none)
+
+pub start_call : {P : Type 0} (meaning : P → Update) (engine : Engine) (st : Setting) (failures : List FailureAt) (resumed : Bool) (base : Base) (left : ℕ) (savers : List (AnyMachine P)) → IsSnapSetting st → IsEngineOf engine st.engine → IsGoodBase (shared_of st failures) base
+    → AreJobFailures st.machines failures → (resumed ≡ true) ⊎ ((resumed ≡ false) × (base.order.items ≡ [])) → AreAnyMachinesOf meaning st (base_opened resumed base) (cluster_before st (ticket_above base.order.items) left base.length) savers
+    → StartsCall (IsAnyMachineOf meaning) savers engine (store_from st base) (ticket_above base.order.items) left failures st (opening_from st resumed base left)
+start_call meaning engine st failures resumed base left savers setting led good ordered begins are = record {
+  starts = record {
+    setting = setting;
+    led = led;
+    many = are.many;
+    each = are.each;
+    vertices = refl;
+    edges = refl;
+    newest = refl;
+    store_end = none_more base.length (total st.machines (λ a. 0)) (total_from-nothing 0 st.machines (λ a. 0) (λ a. refl));
+    first = refl;
+    tickets = refl;
+  };
+  opened = opens_from st failures base good resumed left base.length ordered begins;
+}
+
+module _ (st : Setting) (o : CallOpening) (events : List law.Event) where
+  -- what of the setting is the same in the newest attempt
+  by_setting : {X : Type 0} (read : Setting → X) → ((s : Setting) → read (record st { start = s.start; base = s.base }) ≡ read st) → read (newest_setting st o events) ≡ read st
+  by_setting read same = ap read (behind_since events (first_setting st o)) ∙ same (newest_setting st o events)
+
+  -- it begins elsewhere, and runs by the same engine
+  runs_on : (engine : Engine) (colours : List ℕ) → RunsBy engine colours st → RunsBy engine colours (record st { start = (newest_setting st o events).start; base = (newest_setting st o events).base })
+  runs_on Locking colours runs = runs
+  runs_on (Chromatic greatest) colours runs = runs
+
+  pub run_now : (g : DataGraph) (program : Update) (owner : ℕ → ℕ) (colours : List ℕ) (run : SavingRun) → IsSavingRunOf g program owner colours run st → IsSavingRunOf g program owner colours run (newest_setting st o events)
+  run_now g program owner colours run is =
+      let setting = setting_now st o events is.setting in
+      subst (IsSavingRunOf g program owner colours run) (sym (behind_since events (first_setting st o))) (record {
+        setting = subst IsSnapSetting (behind_since events (first_setting st o)) setting;
+        engine = runs_on run.engine colours is.engine;
+        placed = record { graph = is.placed.graph; machines = is.placed.machines; owners = is.placed.owners };
+        program_is = is.program_is;
+        pipeline = is.pipeline;
+        window = is.window;
+      })
+
+  -- the newest attempt has the same engine
+  engine_now : (engine : Engine) → IsEngineOf engine st.engine → IsEngineOf engine (newest_setting st o events).engine
+  engine_now engine led = subst (λ (e : settings.Engine). IsEngineOf engine e) (sym (by_setting (λ s. s.engine) (λ s. refl))) led
+
+  pub go_back : {P : Type 0} (meaning : P → Update) (engine : Engine) (old : TraceView (AnyMachine P)) (c : Cluster) (base : BaseView) (store : StoreView) (savers : List (AnyMachine P)) → IsTraceNow (IsAnyMachineOf meaning) old st o events c
+      → IsEngineOf engine st.engine → law.GoesBackTo (newest_setting st o events) c base → c.stopped ≡ false → ((a : ℕ) → a < st.machines → has_reached old.failures c a ≡ true → (c.machine a).failed ≡ true)
+      → AreAnyMachinesOf meaning (newest_setting st o events) base c savers → size st.graph ≡ store.vertices → length st.graph.edges ≡ store.edges → base.number ≡ store.newest
+      → (law.recovers (newest_setting st o events) base c).coordinator.store_end ≡ store.store_end → GoesBackWith (IsAnyMachineOf meaning) old savers engine store st o events c base
+  go_back meaning engine old c base store savers is led goes running failed are vertices edges newest store_end = record {
+    is = is;
+    may = (running, goes);
+    follows = λ a low reached. failed a (subst (λ (k : ℕ). a < k) (by_setting (λ s. s.machines) (λ s. refl)) low) reached;
+    starts = record {
+      setting = setting_now st o events is.setting;
+      led = engine_now engine led;
+      many = are.many;
+      each = are.each;
+      vertices = by_setting (λ s. size s.graph) (λ s. refl) ∙ vertices;
+      edges = by_setting (λ s. length s.graph.edges) (λ s. refl) ∙ edges;
+      newest = newest;
+      store_end = store_end;
+      first = is.code.next;
+      tickets = is.code.left;
+    };
+  }

@@ -1,0 +1,43 @@
+-- The machines that were made begin an attempt, and the call where it can open.
+use Rattle.std.proofs.Common.{List, subst, sym, ◌∙◌}
+use Rattle.gl_base.specs.declared.jobs.FailureAt.{FailureAt}
+use Rattle.cluster_step.specs.trace.Traces.{StartsCall}
+use Rattle.engine_runs.proofs.start.TraceLemmas.{opens_so, starts_call, starts_some, two_ok}
+use Rattle.engine_runs.specs.start.Inner.Openings.{base_with}
+use Rattle.engine_runs.specs.start.Starting.{IsAnyMachineOf, opening_from, placed_owner}
+use Rattle.coordinator.specs.coord_core.Stores.{store_view}
+use Rattle.placement.proofs.places.OwnerLemmas.{owner_low}
+use Rattle.engine_runs.proofs.start.traces.trace_of.Goals as goal
+
+pub open-requires-clause-start : goal.open-requires-clause-start
+open-requires-clause-start g c =
+    let graph = c.args.graph.now in
+    let places = c.args.places.now in
+    let run = places.run in
+    let colours = places.colours.items in
+    let owner = placed_owner places.of.items places.owner.items in
+    let store = c.store_of-store.result in
+    starts_some g.P.Program.meaning graph (g.P.Program.meaning c.args.program) owner colours run c.args.opening.now.base c.deref.result.now store c.store_of-store.ensures.store c.in_ok-machines.machines.items c.in_ok-machines.ensures.stand
+    c.args.opening.now.next c.tickets_from-left.result
+    (c.attempts_can_begin.ensures graph (g.P.Program.meaning c.args.program) owner colours run c.args.opening.now.base c.deref.result.now c.args.opening.now.next c.tickets_from-left.result store.length c.store_of-store.ensures.graph
+    (owner_low graph run.machines places.of.items places.owner.items c.requires.places.each c.requires.places.atoms c.requires.places.owners) c.requires.places.colours c.requires.base)
+
+pub returns-clause-opened : goal.returns-clause-opened
+returns-clause-opened g c =
+    let graph = c.args.graph.now in
+    let program = g.P.Program.meaning c.args.program in
+    let places = c.args.places.now in
+    let run = places.run in
+    let owner = placed_owner places.of.items places.owner.items in
+    let store = c.store_of-store.result in
+    let base = c.args.opening.now.base in
+    two_ok c.open.result _ _ _
+    (λ trace opened begun. λ st resumed kept runs can.
+    let starts = starts_call g.P.Program.meaning graph program owner places.colours.items run base c.deref.result.now store c.store_of-store.ensures.store c.in_ok-machines.machines.items c.in_ok-machines.ensures.stand
+    run.machines (c.deref.ensures.value ∙ c.in_ok-serials.ensures.items_if_clones_equal (λ y is. is)) st c.args.failures.now resumed kept c.args.opening.now.next c.tickets_from-left.result c.args.budget runs can c.tickets_from-left.ensures.all in
+    opens_so g.P.Program.meaning trace st c.args.failures.now resumed (base_with kept base) c.args.budget
+    (opened st (opening_from st resumed (base_with kept base) c.args.budget)
+    (subst (λ (fs : List FailureAt). StartsCall (IsAnyMachineOf g.P.Program.meaning) c.in_ok-machines.machines.items run.engine (store_view store) c.args.opening.now.next c.tickets_from-left.result fs st (opening_from st resumed (base_with kept base) c.args.budget))
+    (sym c.in_ok-listed.ensures.items) starts))
+    (λ o opens. begun st o opens))
+    c.open.ensures.opened c.open.ensures.begun

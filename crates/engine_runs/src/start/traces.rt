@@ -1,0 +1,74 @@
+//! The course of a call that starts.
+ghost use Rattle.std.specs.Prelude.{◌≡◌, ◌+◌, ◌^◌, ◌<◌, [], Bool, false, length, IfOk};
+ghost use Rattle.std.specs.declared.vec.Vec.{Vec};
+ghost use Rattle.std.specs.declared.alloc.Global.{Global};
+ghost use Rattle.engine_runs.specs.start.Starting.{ArePlacesOf, Base, IsBaseFor, IsRunAt, Setting};
+ghost use Rattle.engine_runs.specs.start.Inner.Openings.{CanOpenWith, IsStoreOf, OpensWith, base_with};
+ghost use Rattle.gl_base.specs.declared.entries.Entry.{Entry};
+ghost use Rattle.graph_core.specs.DataGraph.{IsDataGraph};
+
+use crate::start::openings::Opening;
+use crate::start::tickets::tickets_from;
+use cluster_step::trace::{Store, Trace};
+use gl_base::{Base, FailureAt, NoMemory};
+use graph_core::Graph;
+use placed_machines::any_machine::AnyMachine;
+use placed_machines::{Places, attempts_can_begin, machines_of_attempt};
+use std::alloc::Global;
+use update_api::Program;
+
+/// The course of a call on machines at these places that begins with this, with so many tickets and
+/// failures.
+pub(crate) fn trace_of<P: Program>(
+    alloc: Global,
+    graph: &Graph,
+    program: P,
+    places: &Places,
+    opening: &Opening,
+    budget: u64,
+    failures: &[FailureAt],
+) -> Result<Trace<AnyMachine<P>>, NoMemory>
+    requires places { ArePlacesOf graph.now places.now.run.machines places.now }
+    requires few { places.now.run.machines < 65535 }
+    requires base { IsBaseFor graph.now opening.now.base }
+    requires number { opening.now.base.number + 1 < 2 ^ 32 }
+    requires short { opening.now.base.length < 2 ^ 32 }
+    ensures failures { IfOk result (λ trace. trace.failures ≡ failures.now) }
+    ensures machines { IfOk result (λ trace.
+        length trace.now.machines.items ≡ places.now.run.machines) }
+    ensures runs { IfOk result (λ trace. trace.now.stopped ≡ false) }
+    ensures opened { IfOk result (λ trace.
+        (st : Setting) (resumed : Bool) (kept : Vec Entry Global) →
+        IsRunAt graph.now (P.meaning program) places.now st →
+        CanOpenWith st failures.now resumed (base_with kept opening.now.base) opening.now.next
+        budget → OpensWith P.meaning trace st resumed (base_with kept opening.now.base) budget) }
+{
+    attempts_can_begin();
+    let listed = Vec::from_slice(alloc, failures)?;
+    let serials = Vec::from_elem(alloc, 0u64, places.run.machines as usize)?;
+    let machines = machines_of_attempt(alloc, graph, program, &opening.base, places, &serials)?;
+    let store = store_of(graph, &opening.base);
+    let left = tickets_from(opening.next, budget);
+    Trace::open(
+        alloc,
+        machines,
+        places.run.engine,
+        store,
+        opening.next,
+        left,
+        listed,
+    )
+}
+
+/// What the coordinator knows of the store of this base.
+fn store_of(graph: &Graph, base: &Base) -> Store
+    ensures store { IsStoreOf graph.now base.now result }
+    ensures graph { IsDataGraph graph.now }
+{
+    Store {
+        vertices: graph.n(),
+        edges: graph.m(),
+        newest: base.number,
+        length: base.length,
+    }
+}

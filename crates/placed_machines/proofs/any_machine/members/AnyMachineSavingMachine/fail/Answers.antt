@@ -1,0 +1,8 @@
+-- A machine that failed, by the engine.
+use Rattle.placed_machines.proofs.any_machine.members.AnyMachineSavingMachine.fail.Goals as goal
+
+pub returns-in-Locking : goal.returns-in-Locking
+returns-in-Locking g c = rw c.in-Locking.is c.fail.ensures
+
+pub returns-in-Chromatic : goal.returns-in-Chromatic
+returns-in-Chromatic g c = rw c.in-Chromatic.is c.fail-in-Chromatic.ensures

@@ -1,0 +1,8 @@
+-- Whether a report waits, by the engine.
+use Rattle.placed_machines.proofs.any_machine.members.AnyMachineSavingMachine.has_report.Goals as goal
+
+pub returns-in-Locking : goal.returns-in-Locking
+returns-in-Locking g c = rw c.in-Locking.is c.has_report.ensures
+
+pub returns-in-Chromatic : goal.returns-in-Chromatic
+returns-in-Chromatic g c = rw c.in-Chromatic.is c.has_report-in-Chromatic.ensures

@@ -1,5 +1,0 @@
--- What machines tell each other, by its kind.
-use Rattle.placed_machines.proofs.color_savers.savers.ColorSaver.receive_first.Goals as goal
-
-pub returns-in-Done-clause-received : goal.returns-in-Done-clause-received
-returns-in-Done-clause-received g c = rw c.in-Done.is c.receive_done.ensures.received

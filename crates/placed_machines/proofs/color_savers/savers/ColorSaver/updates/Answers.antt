@@ -1,7 +1,0 @@
--- The log.
-use Rattle.std.proofs.Common.{sym, ap, ◌∙◌}
-use Rattle.cluster_laws.specs.cluster_core.Parts.{Part}
-use Rattle.placed_machines.proofs.color_savers.savers.ColorSaver.updates.Goals as goal
-
-pub returns : goal.returns
-returns g c = rw (← c.self.view_is) (λ st a m snap is. c.log.ensures ∙ sym (ap (λ (p : Part). p.log) is.part.rest))

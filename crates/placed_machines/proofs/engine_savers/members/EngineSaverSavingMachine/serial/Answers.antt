@@ -1,8 +1,0 @@
--- How many scopes were admitted, by the engine.
-use Rattle.placed_machines.proofs.engine_savers.members.EngineSaverSavingMachine.serial.Goals as goal
-
-pub returns-in-Locking : goal.returns-in-Locking
-returns-in-Locking g c = rw c.in-Locking.is c.serial.ensures
-
-pub returns-in-Chromatic : goal.returns-in-Chromatic
-returns-in-Chromatic g c = rw c.in-Chromatic.is c.serial-in-Chromatic.ensures

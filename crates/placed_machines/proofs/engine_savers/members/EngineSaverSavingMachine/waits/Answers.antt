@@ -1,8 +1,0 @@
--- Whether a message waits, by the engine.
-use Rattle.placed_machines.proofs.engine_savers.members.EngineSaverSavingMachine.waits.Goals as goal
-
-pub returns-in-Locking : goal.returns-in-Locking
-returns-in-Locking g c = rw c.in-Locking.is c.waits.ensures
-
-pub returns-in-Chromatic : goal.returns-in-Chromatic
-returns-in-Chromatic g c = rw c.in-Chromatic.is c.waits-in-Chromatic.ensures

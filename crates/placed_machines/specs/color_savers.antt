@@ -1,2 +1,0 @@
-pub mod Savers
-pub mod Prompting

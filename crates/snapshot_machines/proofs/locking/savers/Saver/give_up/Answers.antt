@@ -1,6 +1,0 @@
--- It fails.
-use Rattle.snapshot_machines.proofs.locking.ReadLemmas.{failed_standing}
-use Rattle.snapshot_machines.proofs.locking.savers.Saver.give_up.Goals as goal
-
-pub returns : goal.returns
-returns g c = failed_standing g.P.Program.meaning c.args.self.now
