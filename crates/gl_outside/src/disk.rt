@@ -26,9 +26,9 @@ pub trait Disk {
 
     /// How many bytes a read gives.
     fn len(&mut self) -> Result<u64, Failed>
-        ensures length { IsTrue told →
+        ensures length { IsTrue observable →
             IfOk result (λ count. count ≡ length (past self.old).now.seen) }
-        ensures past { IsTrue told → past self.new ≡ past self.old }
+        ensures past { IsTrue observable → past self.new ≡ past self.old }
         ensures same { same self.old self.new }
         ensures counts { Counts (faults self.old) (faults self.new) result };
 
@@ -36,8 +36,8 @@ pub trait Disk {
     /// where `at` is the end or past it.
     fn read_at(&mut self, at: u64, buf: &mut [u8]) -> Result<usize, Failed>
         ensures bound { IfOk result (λ count. count ≤ length buf.new) }
-        ensures bytes { IsTrue told → ReadsAt (past self.old).now.seen at buf.new result }
-        ensures past { IsTrue told → past self.new ≡ past self.old }
+        ensures bytes { IsTrue observable → ReadsAt (past self.old).now.seen at buf.new result }
+        ensures past { IsTrue observable → past self.new ≡ past self.old }
         ensures same { same self.old self.new }
         ensures counts { Counts (faults self.old) (faults self.new) result };
 
@@ -45,14 +45,14 @@ pub trait Disk {
     /// zeros. Until a sync a crash may leave any bytes in the range and past the old end. Where it
     /// fails, a read may give any bytes there.
     fn write_at(&mut self, at: u64, piece: &[u8]) -> Result<(), Failed>
-        ensures past { IsTrue told → WritesAt (past self.old) at piece.now (past self.new) result }
+        ensures past { IsTrue observable → WritesAt (past self.old) at piece.now (past self.new) result }
         ensures same { same self.old self.new }
         ensures counts { Counts (faults self.old) (faults self.new) result };
 
     /// After it a crash leaves what a read gives. Where it fails, a crash may leave what it might
     /// have left before.
     fn sync(&mut self) -> Result<(), Failed>
-        ensures past { IsTrue told → Syncs (past self.old) (past self.new) result }
+        ensures past { IsTrue observable → Syncs (past self.old) (past self.new) result }
         ensures same { same self.old self.new }
         ensures counts { Counts (faults self.old) (faults self.new) result };
 
@@ -61,6 +61,6 @@ pub trait Disk {
     ghost same_trans: { (a b c : Self) → same a b → same b c → same a c };
 
     /// A disk as it reads is one of its images.
-    ghost reads_an_image: { (disk : Self) → IsTrue told →
+    ghost reads_an_image: { (disk : Self) → IsTrue observable →
         images_now (past disk) (past disk).now.seen };
 }
