@@ -2,7 +2,7 @@
 ghost use Rattle.std.specs.Prelude.{◌≡◌, ◌⊎◌, ℕ, ◌+◌, ◌^◌, ◌<◌, ◌≤◌, ◌++◌, List, [], ◌∷◌, true, false, Ok, Err, length, IsTrue, IfOk, IfErr, OnOk, OnErr, IsErr};
 ghost use Rattle.store.specs.snap_journal.Disks.{LeavesOnly};
 ghost use Rattle.store.specs.snap_journal.Formats.{IsBody, body_bytes, RecordFits, IsBeforeOrAfter, records_size, stored_order};
-ghost use Rattle.store.specs.snap_journal.Journals.{snapshots_in, AllDecodeTo};
+ghost use Rattle.store.specs.snap_journal.Journals.{snapshots_in, AllDecodeTo, KnowsStore};
 ghost use Rattle.store.specs.snap_journal.Answers.{IsFullFor, JournalAppendErrorCause};
 ghost use Rattle.store.specs.snap_journal.Inner.Settled.{FollowsOn, body_between};
 
@@ -64,11 +64,13 @@ impl<D: Disk> Journal<D> {
         self.header
     }
 
-    /// How many bytes the store has.
+    /// How many bytes the store has. Whatever a crash now leaves has its snapshots.
     pub fn length(&self) -> u64
         ensures length { result ≡ self.now.length }
         ensures stored { IsTrue D.observable → self.now.failed ≡ false →
             result ≡ 65 + records_size (snapshots_in D.past self.now) }
+        ensures knows { IsTrue D.observable → self.now.failed ≡ false →
+            KnowsStore D.past self.now }
     {
         self.gate + 1
     }

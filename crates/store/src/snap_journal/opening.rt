@@ -9,7 +9,7 @@ ghost use Rattle.store.specs.snap_journal.Inner.Found.{IsFound, entries_kept};
 ghost use Rattle.store.specs.snap_journal.Inner.Settled.{IsAtRest};
 
 use crate::snap_journal::disk_reads::read_front;
-use crate::snap_journal::records_read::next_body;
+use crate::snap_journal::records_read::{RecordPlace, next_body};
 use crate::snap_journal::{Journal, JournalFault};
 use crate::store_format::{HEADER, Header, StoreFault, check_header, push_entries_of};
 use gl_base::{Entry, NoMemory};
@@ -75,7 +75,12 @@ pub fn survey<D: Disk>(
     let mut entries = Vec::new(alloc);
     let mut body = Vec::new(alloc);
     'records: while gate <= len {
-        let more = next_body(alloc, disk, header, count + 1, gate, len, &mut body)?;
+        let place = RecordPlace {
+            number: count + 1,
+            at: gate,
+            len,
+        };
+        let more = next_body(alloc, disk, header, place, &mut body)?;
         if !more {
             return Ok(Found {
                 count,

@@ -17,6 +17,15 @@ pub const OPEN: u8 = 1;
 /// How many bytes an open gate, a length, a number and a count of entries have.
 const HEAD: u64 = 17;
 
+/// Where a record is looked for: the number that it is to have, the place of the gate before it,
+/// and how many bytes the store has.
+#[derive(Clone, Copy)]
+pub struct RecordPlace {
+    pub number: u32,
+    pub at: u64,
+    pub len: u64,
+}
+
 /// What the first bytes at a gate say, up to 17 of them: nothing where the gate isn't open, and
 /// else the length of a body that is there.
 fn length_in(header: &Header, at: u64, len: u64, head: &[u8]) -> Result<Option<u64>, StoreFault>
@@ -57,28 +66,27 @@ fn next_length<D: Disk>(
     alloc: Global,
     disk: &mut D,
     header: &Header,
-    number: u32,
-    at: u64,
-    len: u64,
+    place: RecordPlace,
 ) -> Result<Option<u64>, JournalFault>
-    requires inside { at ≤ len }
-    requires len { IsTrue D.observable → len ≡ length (D.past disk.old).now.seen }
+    requires inside { place.at ≤ place.len }
+    requires len { IsTrue D.observable → place.len ≡ length (D.past disk.old).now.seen }
     ensures next { IsTrue D.observable →
-        IfOk result (IsNextLength header.now number at (drop at (D.past disk.old).now.seen)) }
-    ensures here { IfOk result (λ next. at < len) }
-    ensures room { IfOk result (λ next. IfSome next (λ size. at + 10 + size ≤ len)) }
+        IfOk result (IsNextLength header.now place.number place.at
+        (drop place.at (D.past disk.old).now.seen)) }
+    ensures here { IfOk result (λ next. place.at < place.len) }
+    ensures room { IfOk result (λ next. IfSome next (λ size. place.at + 10 + size ≤ place.len)) }
     ensures least { IfOk result (λ next. IfSome next (λ size. 8 ≤ size)) }
     ensures small { IfOk result (λ next. IfSome next (λ size. size < 2 ^ 38)) }
     ensures fault { IfErr result
-        (NextBodyErrorCause (IsTrue D.observable) header.now number at (D.past disk.old).now.seen
-        (D.faults disk.old) (D.faults disk.new)) }
+        (NextBodyErrorCause (IsTrue D.observable) header.now place.number place.at
+        (D.past disk.old).now.seen (D.faults disk.old) (D.faults disk.new)) }
     ensures past { IsTrue D.observable → D.past disk.new ≡ D.past disk.old }
     ensures same { D.same disk.old disk.new }
     ensures later { D.faults disk.old ≤ D.faults disk.new }
 {
-    let there = (len - at).min(HEAD);
-    let head = read_front(alloc, disk, at, there as usize)?;
-    match length_in(header, at, len, &head) {
+    let there = (place.len - place.at).min(HEAD);
+    let head = read_front(alloc, disk, place.at, there as usize)?;
+    match length_in(header, place.at, place.len, &head) {
         Ok(next) => Ok(next),
         Err(fault) => Err(JournalFault::BadStore(fault)),
     }
@@ -119,34 +127,35 @@ pub fn next_body<D: Disk>(
     alloc: Global,
     disk: &mut D,
     header: &Header,
-    number: u32,
-    at: u64,
-    len: u64,
+    place: RecordPlace,
     body: &mut Vec<u8>,
 ) -> Result<bool, JournalFault>
-    requires inside { at ≤ len }
-    requires len { IsTrue D.observable → len ≡ length (D.past disk.old).now.seen }
+    requires inside { place.at ≤ place.len }
+    requires len { IsTrue D.observable → place.len ≡ length (D.past disk.old).now.seen }
     ensures next { IsTrue D.observable →
         IfOk result (λ more.
-        IsNextBody header.now number at (D.past disk.old).now.seen body.new.items more) }
+        IsNextBody header.now place.number place.at
+        (D.past disk.old).now.seen body.new.items more) }
     ensures kept { IfOk result (λ more. more ≡ false → body.new ≡ body.old) }
-    ensures here { IfOk result (λ more. at < len) }
-    ensures ascends { IfOk result (λ more. more ≡ true → at + 10 + length body.new.items ≤ len) }
-    ensures numbers { IfOk result (λ more. more ≡ true → number < 4294967295) }
-    ensures form { IfOk result (λ more. more ≡ true → IsBody header.now number body.new.items) }
+    ensures here { IfOk result (λ more. place.at < place.len) }
+    ensures ascends { IfOk result (λ more. more ≡ true →
+        place.at + 10 + length body.new.items ≤ place.len) }
+    ensures numbers { IfOk result (λ more. more ≡ true → place.number < 4294967295) }
+    ensures form { IfOk result (λ more. more ≡ true →
+        IsBody header.now place.number body.new.items) }
     ensures fault { IfErr result
-        (NextBodyErrorCause (IsTrue D.observable) header.now number at (D.past disk.old).now.seen
-        (D.faults disk.old) (D.faults disk.new)) }
+        (NextBodyErrorCause (IsTrue D.observable) header.now place.number place.at
+        (D.past disk.old).now.seen (D.faults disk.old) (D.faults disk.new)) }
     ensures past { IsTrue D.observable → D.past disk.new ≡ D.past disk.old }
     ensures same { D.same disk.old disk.new }
     ensures later { D.faults disk.old ≤ D.faults disk.new }
 {
-    let Some(size) = next_length(alloc, disk, header, number, at, len)? else {
+    let Some(size) = next_length(alloc, disk, header, place)? else {
         return Ok(false);
     };
     *body = Vec::new(alloc);
-    let read = read_front(alloc, disk, at + 9, size as usize)?;
-    check_body(alloc, header, number, at, size, &read)?;
+    let read = read_front(alloc, disk, place.at + 9, size as usize)?;
+    check_body(alloc, header, place.number, place.at, size, &read)?;
     *body = read;
     Ok(true)
 }
