@@ -1,1 +1,1 @@
-pub mod HalvingLaws
+pub mod BoundLaws

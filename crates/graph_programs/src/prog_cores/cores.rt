@@ -31,20 +31,25 @@ impl Program for Cores {
     }
 }
 
-/// Returns the greatest number up to `most` that as many neighbours reach. Fewer neighbours reach a
-/// greater number, so it is found by halving.
+/// Returns the greatest number up to `most` that as many neighbours reach. The first look is at
+/// `most` itself, as a vertex mostly keeps its number. As many as reach a number reach their own
+/// count too, and no more reach a greater one, so each look bounds the result from both sides.
 fn greatest_supported(scope: &Scope<'_>, most: u64) -> u64
     ensures { result ≡ greatest_supported most (nears scope.now) }
 {
     let mut low = 0;
     let mut high = most;
+    let mut looked = most;
     while low < high {
-        let middle = high - (high - low) / 2;
-        if support(scope, middle) >= middle {
-            low = middle;
+        let count = support(scope, looked);
+        if count >= looked {
+            low = looked;
+            high = high.min(count);
         } else {
-            high = middle - 1;
+            low = low.max(count);
+            high = looked - 1;
         }
+        looked = high - (high - low) / 2;
     }
     low
 }

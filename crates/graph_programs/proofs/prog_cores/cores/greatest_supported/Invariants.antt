@@ -1,16 +1,15 @@
--- The low number is supported, and none above the high one is.
-use Rattle.std.proofs.Common.{ℕ, ◌≤◌, ◌<◌, ◌-◌}
+-- The greatest supported number is between the low number and the high one, and the next look is at one between.
+use Rattle.std.proofs.Common.{◌≤◌, ◌<◌, ◌-◌}
 use Rattle.update_api.specs.Scopes.{nears}
-use Rattle.update_api.specs.Supported.{support}
+use Rattle.graph_programs.proofs.prog_cores.BoundLaws.{IsBetween}
 use Rattle.graph_programs.proofs.prog_cores.cores.greatest_supported.Given as goal
 
 abbrev pub invariant-loop-low : goal.invariant-loop-low
 invariant-loop-low l =
     record {
-      within : l.low ≤ l.high;
-      top : l.high ≤ l.most;
-      held : l.low ≤ support l.low (nears l.scope);
-      none : (j : ℕ) → l.high < j → j ≤ l.most → j ≤ support j (nears l.scope) → ⊥;
+      between : IsBetween l.most l.low l.high (nears l.scope);
+      above : l.low < l.high → l.low < l.looked;
+      below : l.looked ≤ l.high;
     }
 
 abbrev pub decreases-loop-low : goal.decreases-loop-low
