@@ -29,29 +29,43 @@ pub fn update_vertex<P: Program>(
 {
     let (low, rest) = values.split_at_mut(vertex);
     let (centre, high) = rest.split_at_mut(1);
-    update_centre(program, id, links, low, &mut centre[0], high, edges)
+    update_centre(
+        program,
+        &Star { id, links },
+        low,
+        &mut centre[0],
+        high,
+        edges,
+    )
+}
+
+/// A vertex with the edges at it.
+#[derive(Drop)]
+struct Star<'a> {
+    id: u64,
+    links: &'a [Link],
 }
 
 /// The update in its scope, where the vertex's number stands between those before it and those
 /// behind it.
 fn update_centre<P: Program>(
     program: &P,
-    id: u64,
-    links: &[Link],
+    star: &Star<'_>,
     low: &[u64],
     centre: &mut u64,
     high: &[u64],
     edges: &mut [u64],
 ) -> Woken
     requires { let vertices = length low.now + 1 + length high.now in
-        AreLinks links.now (length low.now) vertices (length edges.old) }
+        AreLinks star.now.links.now (length low.now) vertices (length edges.old) }
     ensures number { let values = low.now ++ centre.old ∷ high.now in
         centre.new ≡ (P.meaning program.now).number centre.old
-        (nears_at values edges.old links.now) }
+        (nears_at values edges.old star.now.links.now) }
     ensures marks { let values = low.now ++ centre.old ∷ high.now in
-        AreMarked ((P.meaning program.now).mark centre.new) values edges.old links.now edges.new }
+        AreMarked ((P.meaning program.now).mark centre.new) values edges.old star.now.links.now
+        edges.new }
     ensures woken { result ≡ (P.meaning program.now).woken centre.old centre.new }
 {
-    let mut scope = Scope::new(id, links, low, centre, high, edges);
+    let mut scope = Scope::new(star.id, star.links, low, centre, high, edges);
     program.update(&mut scope)
 }
