@@ -29,7 +29,7 @@ static STEPS: [(u32, Worked); 9] = [
 
 /// Prints how machines are led to their end, and through steps, and when a machine is at rest.
 pub fn print_leading(rt: &impl Print, alloc: Global) -> io::Result<()> {
-    match Coordinator::new(alloc, 2) {
+    match Coordinator::new(alloc, 2, Engine::Locking, None) {
         Ok(mut coordinator) => print_pair(rt, &mut coordinator)?,
         Err(fault) => println!(rt; "pair: {fault}")?,
     }
@@ -39,7 +39,7 @@ pub fn print_leading(rt: &impl Print, alloc: Global) -> io::Result<()> {
         newest: 0,
         length: 100,
     };
-    match Coordinator::with_store(alloc, 2, Engine::Chromatic(2), store) {
+    match Coordinator::new(alloc, 2, Engine::Chromatic(2), Some(store)) {
         Ok(mut coordinator) => print_steps(rt, &mut coordinator)?,
         Err(fault) => println!(rt; "steps: {fault}")?,
     }

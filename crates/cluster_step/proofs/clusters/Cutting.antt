@@ -216,7 +216,7 @@ none_reports messages none = subst (λ (ms : List MessageView). AreReports ms []
 
 module _ {M : Type 0} (represents : Setting → ℕ → Machine → M → Type 0) (p : Parts M) (engine : Engine) (store : StoreView) (next left : ℕ)
     (have : HaveLinks p.links (suc (length p.machines.items))) (none : (a b : ℕ) → (link_between p.links a b).messages ≡ []) (few : next + left < 2 ^ 64) (small : length p.machines.items < 65535)
-    (leads : IsFirstWith (length p.machines.items) engine store p.coordinator) (awake : (a : ℕ) → slice_index_or p.failed.items a false ≡ false) (flags : length p.failed.items ≡ length p.machines.items) (next_is : p.next ≡ next) (left_is : p.left ≡ left) where
+    (leads : IsFirstWith (length p.machines.items) engine (Some store) p.coordinator) (awake : (a : ℕ) → slice_index_or p.failed.items a false ≡ false) (flags : length p.failed.items ≡ length p.machines.items) (next_is : p.next ≡ next) (left_is : p.left ≡ left) where
   pub begun_first : (runs : p.stopped ≡ false) (st : Setting) (base : BaseView) (before : Cluster) → StartsSaving represents p.machines.items engine store next left st base before →
       IsSavingClusterOf represents (going_on st base.numbers base.number) p (recovers st base before)
   begun_first runs st base before start =

@@ -545,7 +545,7 @@ pub(crate) fn first_parts<M: SavingMachine>(
 {
     let many = machines.len();
     let links = Links::new(alloc, many + 1)?;
-    let coordinator = Coordinator::with_store(alloc, many as u16, engine, store)?;
+    let coordinator = Coordinator::new(alloc, many as u16, engine, Some(store))?;
     let failed = none_failed(alloc, many)?;
     Ok(Parts {
         machines,

@@ -3,7 +3,7 @@ use Rattle.std.proofs.Common.{◌≡◌, ℕ, suc, ◌+◌, ◌<◌, ◌≤◌, 
 use Rattle.std.specs.Prelude.{Err, IfOk, Ok, Result, option_map, slice_get, slice_index_or, slice_set}
 use Rattle.std.specs.List.{list_all}
 use Rattle.std.proofs.lemmas.Bool.{cases_lt}
-use Rattle.std.proofs.lemmas.List.{get_or_past, length-set, set-get_or}
+use Rattle.std.proofs.lemmas.List.{get_or_past, length-replicate, length-set, set-get_or}
 use Rattle.std.proofs.lemmas.List.Folds.{list_all-append}
 use Rattle.cluster_laws.proofs.cluster_core.Basics.{set_at-same, set_at-other}
 use Rattle.cluster_laws.specs.cluster_core.Ranges.{set_at}
@@ -13,15 +13,14 @@ use Rattle.gl_base.specs.declared.scopes.Counted.{Counted}
 use Rattle.wire.specs.outboxes.Outboxes.{left_behind, without_first}
 use Rattle.wire.specs.declared.wire_msgs.messages.Message.{Message}
 use Rattle.wire.specs.wire_msgs.Views as wire
-use Rattle.coordinator.specs.coord_core.Calls.{HasBegunNext, HasHandedOver, HasPutStep, HasPutWave, HasRecorded, HasTakenReport, IsFirstOf, IsFirstWith, StaysCoordinator}
+use Rattle.coordinator.specs.coord_core.Calls.{HasBegunNext, HasHandedOver, HasPutStep, HasPutWave, HasRecorded, HasTakenReport, IsFirstWith, StaysCoordinator}
 use Rattle.coordinator.specs.coord_core.Coordinators.{AreCalls, Call, Coordinator, CoordinatorView, Counting, AreStepsOf, IsCoordinatorOf, IsEngineOf, IsSavingOf, Report, Setting, StepsView, TellsCall, MessageView, OutboxView, OutboxesView, acknowledges, begins_snapshot, count_answer, count_wave, first_coordinator, first_counting, hands_call, message_view, puts_step, puts_wave, takes_report, waiting_at, no_outbox}
 use Rattle.coordinator.specs.coord_core.Inner.Asking.{AreOutboxesOf, SameMessages, is_call}
 use Rattle.coordinator.specs.coord_core.Inner.Kept.{IsSavingKept}
 use Rattle.coordinator.specs.coord_core.Inner.Seen.{IsFirstSaving}
-use Rattle.coordinator.specs.coord_core.Saving.{IsRecordDue, SavingView, SectionView, StoreView, saving_nothing, saved_before, with_acknowledged, saving_begun, saving_section, with_want}
+use Rattle.coordinator.specs.coord_core.Saving.{IsRecordDue, SavingView, SectionView, StoreView, saving_first, with_acknowledged, saving_begun, saving_section, with_want}
 use Rattle.coordinator.specs.coord_core.Steps.{HasColours, colour_in_turn, first_steps, steps_asked, steps_begun}
 use Rattle.coordinator.specs.declared.coord_core.steps.Engine.{Engine}
-use Rattle.coordinator.specs.declared.coord_core.steps.Engine.TheVariants.{Locking}
 use Rattle.coordinator.proofs.coord_core.BoxLemmas.{box_set}
 use Rattle.coordinator.proofs.coord_core.SavingLemmas.{acknowledged_of, begun_of, first_saving, saving_stays, section_of, stored_where_due, want_of}
 use Rattle.coordinator.proofs.coord_core.StepLemmas.{asked_of, colour_of, counted_of, none_of, stepped_of}
@@ -40,22 +39,25 @@ steps_by rounds s t same are = subst (λ (x : StepsView). AreStepsOf x.engine x 
 
 -- ---- at first
 
-module _ (machines : ℕ) (view : CoordinatorView) where
-  pub first_part : IsFirstSaving machines Locking (saving_nothing machines) view → IsFirstOf machines view
-  first_part first st base long same engine plain =
+-- no section of so many machines has come
+pub first_come : (machines : ℕ) (store : Option StoreView) → length (saving_first machines store).come ≡ machines
+first_come machines None = length-replicate machines None
+first_come machines (Some store) = length-replicate machines None
+
+module _ (machines : ℕ) (view : CoordinatorView) (engine : Engine) where
+  pub first_with : (store : Option StoreView) → IsFirstSaving machines engine (saving_first machines store) view → IsFirstWith machines engine store view
+  first_with None first = λ st base long same engine_is plain.
       record {
         machines = first.many ∙ sym same;
-        engine = engine_by st (first_steps Locking) view.steps first.steps engine;
+        engine = engine_by st (first_steps engine) view.steps first.steps engine_is;
         stored = plain ∙ ap (λ (s : SavingView). s.stored) (sym first.saving);
         none = λ _. refl;
         saving = λ stored. absurd (cc);
         counting = ap first_counting same ∙ sym first.counting;
-        steps = steps_by (first_rounds st.machines) (first_steps Locking) view.steps first.steps (none_of Locking (first_rounds st.machines) refl refl refl);
+        steps = steps_by (first_rounds st.machines) (first_steps engine) view.steps first.steps (none_of engine (first_rounds st.machines) refl refl refl);
         out = λ a _. subst (λ (messages : List MessageView). AreCalls messages []) (sym (first.none a)) tt;
       }
-
-  pub first_with : (engine : Engine) (store : StoreView) → IsFirstSaving machines engine (saved_before machines store) view → IsFirstWith machines engine store view
-  first_with engine store first st same engine_is stored vertices edges =
+  first_with (Some store) first = λ st same engine_is stored vertices edges.
       record {
         machines = first.many ∙ sym same;
         engine = engine_by st (first_steps engine) view.steps first.steps engine_is;

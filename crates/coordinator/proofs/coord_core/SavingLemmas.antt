@@ -79,8 +79,9 @@ module _ (st : Setting) (s : SavingView) (c : Coordinator) (of : IsSavingOf st s
         come_some (come_at s.come a) (c.come a) (of.come a low) (due.sections a inside);
   }
 
-  pub own_due : RecordIsDue st c → IsRecordDue s
-  own_due due = record {
+  pub own_due : s.stored ≡ true → RecordIsDue st c → IsRecordDue s
+  own_due stored due = record {
+    stored = stored;
     under = subst (λ (n : ℕ). n < s.begun) of.acknowledged (subst (λ (n : ℕ). c.acknowledged < n) of.begun due.under);
     sections = λ a inside.
         let low : a < st.machines = subst (λ (n : ℕ). a < n) of.machines inside in
@@ -236,22 +237,16 @@ module _ (view : CoordinatorView) (kept : IsSavingKept view.saving) (st : Settin
   not_same x y less same = omega arith
 
   pub record_due : IsRecordDue view.saving → RecordIsDue st c
-  record_due due = elim (cases_Bool view.saving.stored) [
-    | inl stored ↦ law_due st view.saving c (is_stored stored) due
-    | inr plain ↦ absurd (not_same view.saving.acknowledged view.saving.begun due.under (kept.plain plain))
-  ]
+  record_due due = law_due st view.saving c (is_stored due.stored) due
 
   pub own_record_due : RecordIsDue st c → IsRecordDue view.saving
   own_record_due due = elim (cases_Bool view.saving.stored) [
-    | inl stored ↦ own_due st view.saving c (is_stored stored) due
+    | inl stored ↦ own_due st view.saving c (is_stored stored) stored due
     | inr plain ↦ absurd (not_same c.acknowledged c.begun due.under (of.none (of.stored ∙ plain)))
   ]
 
   pub stored_where_due : IsRecordDue view.saving → st.stored ≡ true
-  stored_where_due due = elim (cases_Bool view.saving.stored) [
-    | inl stored ↦ of.stored ∙ stored
-    | inr plain ↦ absurd (not_same view.saving.acknowledged view.saving.begun due.under (kept.plain plain))
-  ]
+  stored_where_due due = of.stored ∙ due.stored
 
   pub may_record : IsRecordDue view.saving → HasRoomForRecord view.saving → HasStoreRoom st c
   may_record due room = law_room st view.saving c (of.saving (stored_where_due due)) room

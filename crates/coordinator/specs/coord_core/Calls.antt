@@ -16,19 +16,17 @@ use Rattle.wire.specs.wire_msgs.Views as wire
 use Rattle.coordinator.specs.declared.coord_core.leading.Due.{Due}
 use Rattle.coordinator.specs.declared.coord_core.leading.Due.TheVariants as due
 use Rattle.coordinator.specs.declared.coord_core.steps.Engine.{Engine}
-use Rattle.coordinator.specs.coord_core.Coordinators.{Call, Cluster, Coordinator, CoordinatorView, HasSeenTheEnd, IsCoordinatorOf, IsEngineOf, Locking, MayBeCounted, MessageView, Report, Setting, StoreView, TellsCall, acknowledges, begins_snapshot, first_coordinator, hands_call, message_view, no_outbox, puts_step, puts_wave, takes_report}
+use Rattle.coordinator.specs.coord_core.Coordinators.{Call, Cluster, Coordinator, CoordinatorView, HasSeenTheEnd, IsCoordinatorOf, IsEngineOf, MayBeCounted, MessageView, Report, Setting, StoreView, TellsCall, acknowledges, begins_snapshot, first_coordinator, hands_call, message_view, no_outbox, puts_step, puts_wave, takes_report}
 use Rattle.coordinator.specs.coord_core.Records.{AreByTicket}
 use Rattle.coordinator.specs.coord_core.Saving.{HasRoomForRecord, IsApart, IsRecordDue}
 
--- it is the coordinator that an attempt with so many machines begins with, where no snapshots are taken
-abbrev pub IsFirstOf : ℕ → CoordinatorView → Type 0
-IsFirstOf machines view =
-    (st : Setting) (base long : ℕ) → st.machines ≡ machines → st.engine ≡ Locking → st.stored ≡ false →
+-- it is the coordinator that an attempt with so many machines, this engine and this store begins with; or, without a store, one where no
+-- snapshots are taken, whatever it goes back to
+abbrev pub IsFirstWith : ℕ → Engine → Option StoreView → CoordinatorView → Type 0
+IsFirstWith machines engine None view =
+    (st : Setting) (base long : ℕ) → st.machines ≡ machines → IsEngineOf engine st.engine → st.stored ≡ false →
     IsCoordinatorOf st view (first_coordinator st base long)
-
--- it is the one that an attempt with so many machines, this engine and this store begins with
-abbrev pub IsFirstWith : ℕ → Engine → StoreView → CoordinatorView → Type 0
-IsFirstWith machines engine store view =
+IsFirstWith machines engine (Some store) view =
     (st : Setting) → st.machines ≡ machines → IsEngineOf engine st.engine → st.stored ≡ true → size st.graph ≡ store.vertices → length st.graph.edges ≡ store.edges →
     IsCoordinatorOf st view (first_coordinator st store.newest store.store_end)
 

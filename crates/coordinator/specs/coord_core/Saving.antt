@@ -62,6 +62,11 @@ saved_before machines store =
       store_end = store.store_end;
     }
 
+-- an attempt begins: with this store, or without one
+abbrev pub saving_first : ℕ → Option StoreView → SavingView
+saving_first machines None = saving_nothing machines
+saving_first machines (Some store) = saved_before machines store
+
 -- ---- sections
 
 -- the section of machine a, where it has come
@@ -96,8 +101,9 @@ IsApartWhereCome (Some section) = IsApart section
 abbrev pub saved_length : SavingView → ℕ
 saved_length s = 8 + 16 * entries_come (length s.come) s.come + 8 * length s.come + 12 * s.vertices + 12 * s.edges + 9
 
--- a snapshot is under way, and all sections have come
+-- snapshots are taken, one is under way, and all sections have come
 pub record IsRecordDue (s : SavingView) : Type 0 where
+  pub stored : s.stored ≡ true
   pub under : s.acknowledged < s.begun
   pub sections : HaveAllCome s.come
 

@@ -1,8 +1,8 @@
 //! The coordinator.
-ghost use Rattle.std.specs.Prelude.{◌≡◌, ◌≢◌, ◌+◌, ◌^◌, ◌<◌, ◌≤◌, ◌↔◌, true, IfOk, IsErrOf, IsTrue, length, slice_index_or, OnOk, OnErr};
+ghost use Rattle.std.specs.Prelude.{◌≡◌, ◌≢◌, ◌+◌, ◌^◌, ◌<◌, ◌≤◌, ◌↔◌, true, IfOk, IfSome, IsErrOf, IsTrue, length, option_map, slice_index_or, OnOk, OnErr};
 ghost use Rattle.coordinator.specs.coord_core.Coordinators.{HasCluster, MayBeCounted, message_view, no_outbox};
 ghost use Rattle.wire.specs.outboxes.Outboxes.{has_waiting};
-ghost use Rattle.coordinator.specs.coord_core.Calls.{HasBegunNext, HasHandedOver, HasPutStep, HasPutWave, HasRecorded, HasShownIt, HasTakenReport, IsDueOf, IsFirstOf, IsFirstWith, IsReadyToRecord, IsRecordDueOf, MayLeadBegin, MayNotBegin, MayNotPutStep, MayNotPutWave, MayNotRecord, MayPutStep, MayPutWave, MayLeadRecord, MayReport, StaysCoordinator};
+ghost use Rattle.coordinator.specs.coord_core.Calls.{HasBegunNext, HasHandedOver, HasPutStep, HasPutWave, HasRecorded, HasShownIt, HasTakenReport, IsDueOf, IsFirstWith, IsReadyToRecord, IsRecordDueOf, MayLeadBegin, MayNotBegin, MayNotPutStep, MayNotPutWave, MayNotRecord, MayPutStep, MayPutWave, MayLeadRecord, MayReport, StaysCoordinator};
 ghost use Rattle.coordinator.specs.coord_core.Stores.{store_view};
 ghost use Rattle.coordinator.specs.coord_core.Inner.Kept.{IsSavingKept};
 ghost use Rattle.coordinator.specs.coord_core.Inner.Seen.{SeesEnd, HasShownTheEnd, IsFirstSaving, IsWaveTurn, WantsSnapshot, WantsStep};
@@ -72,28 +72,21 @@ impl Model for Coordinator {
 }
 
 impl Coordinator {
-    /// No wave was put out to so many machines, which take locks, and nothing waits. No snapshots
-    /// are taken.
-    pub fn new(alloc: Global, machines: u16) -> Result<Coordinator, NoMemory>
-        ensures { IfOk result (λ c. IsFirstOf machines c) }
-    {
-        let saving = Saving::none(alloc, machines)?;
-        Coordinator::first(alloc, machines, Engine::Locking, saving)
-    }
-
     /// No wave and no step was put out to so many machines, whose updates are kept apart so, and
-    /// nothing waits. Snapshots are taken, behind the newest one of this store.
-    pub fn with_store(
+    /// nothing waits. Snapshots are taken behind the newest one of the store. Without a store none
+    /// is.
+    pub fn new(
         alloc: Global,
         machines: u16,
         engine: Engine,
-        store: Store,
+        store: Option<Store>,
     ) -> Result<Coordinator, NoMemory>
-        requires newest { store.newest + 1 < 2 ^ 32 }
-        requires length { store.length < 2 ^ 32 }
-        ensures { IfOk result (λ c. IsFirstWith machines engine (store_view store) c) }
+        requires newest { IfSome store (λ s. s.newest + 1 < 2 ^ 32) }
+        requires length { IfSome store (λ s. s.length < 2 ^ 32) }
+        ensures { IfOk result (λ c.
+            IsFirstWith machines engine (option_map store_view store) c) }
     {
-        let saving = Saving::with_store(alloc, machines, store)?;
+        let saving = Saving::new(alloc, machines, store)?;
         Coordinator::first(alloc, machines, engine, saving)
     }
 

@@ -1,6 +1,6 @@
 //! What the coordinator knows of snapshots.
-ghost use Rattle.std.specs.Prelude.{◌≡◌, ◌+◌, ◌^◌, ◌<◌, ◌≤◌, ◌↔◌, true, IsTrue, IfOk, length};
-ghost use Rattle.coordinator.specs.coord_core.Saving.{HasRoomForRecord, IsApart, IsRecordDue, IsSnapshotDue, saving_nothing, saved_length, saved_before, section_view, with_acknowledged, saving_begun, saving_section, with_want};
+ghost use Rattle.std.specs.Prelude.{◌≡◌, ◌+◌, ◌^◌, ◌<◌, ◌≤◌, ◌↔◌, true, IsTrue, IfOk, IfSome, length, option_map};
+ghost use Rattle.coordinator.specs.coord_core.Saving.{HasRoomForRecord, IsApart, IsRecordDue, IsSnapshotDue, saving_first, saving_nothing, saved_length, saved_before, section_view, with_acknowledged, saving_begun, saving_section, with_want};
 ghost use Rattle.coordinator.specs.coord_core.Records.{IsRecordOf};
 ghost use Rattle.coordinator.specs.coord_core.Stores.{store_view};
 
@@ -67,8 +67,21 @@ impl Model for Saving {
 }
 
 impl Saving {
+    /// An attempt begins: with the newest snapshot of the store, or without a store, where no
+    /// snapshots are taken.
+    pub fn new(alloc: Global, machines: u16, store: Option<Store>) -> Result<Saving, NoMemory>
+        requires newest { IfSome store (λ s. s.newest + 1 < 2 ^ 32) }
+        requires length { IfSome store (λ s. s.length < 2 ^ 32) }
+        ensures { IfOk result (λ s. s ≡ saving_first machines (option_map store_view store)) }
+    {
+        match store {
+            Some(store) => Saving::with_store(alloc, machines, store),
+            None => Saving::none(alloc, machines),
+        }
+    }
+
     /// No snapshots are taken.
-    pub fn none(alloc: Global, machines: u16) -> Result<Saving, NoMemory>
+    fn none(alloc: Global, machines: u16) -> Result<Saving, NoMemory>
         ensures { IfOk result (λ s. s ≡ saving_nothing machines) }
     {
         Ok(Saving {
@@ -86,7 +99,7 @@ impl Saving {
     }
 
     /// An attempt begins, with the newest snapshot of this store.
-    pub fn with_store(alloc: Global, machines: u16, store: Store) -> Result<Saving, NoMemory>
+    fn with_store(alloc: Global, machines: u16, store: Store) -> Result<Saving, NoMemory>
         requires newest { store.newest + 1 < 2 ^ 32 }
         requires length { store.length < 2 ^ 32 }
         ensures { IfOk result (λ s. s ≡ saved_before machines (store_view store)) }
@@ -141,11 +154,11 @@ impl Saving {
         self.acknowledged == self.begun
     }
 
-    /// Whether a snapshot is under way and all its sections have come.
+    /// Whether snapshots are taken, one is under way, and all its sections have come.
     pub fn is_record_due(&self) -> bool
         ensures { IsTrue result ↔ IsRecordDue self.now }
     {
-        self.acknowledged < self.begun && have_all_come(&self.come)
+        self.stored && self.acknowledged < self.begun && have_all_come(&self.come)
     }
 
     /// Whether a snapshot is due, where the cluster is quiet or not and its machines have told so
