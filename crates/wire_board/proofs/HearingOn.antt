@@ -6,7 +6,7 @@ use Rattle.cluster_laws.specs.cluster_core.Messages as core
 use Rattle.cluster_laws.specs.cluster_model.Events as law
 use Rattle.cluster_laws.specs.cluster_model.Working.{hands, prompt, receives}
 use Rattle.cluster_step.proofs.clusters.Goings.{going_trace}
-use Rattle.coordinator.specs.machine_api.Promises.{HasReceived, IsFirstFrom, MayReceiveFirst, MessageView, OfEach, SendsItsFirst, StandsStill, message_view, told_by}
+use Rattle.coordinator.specs.machine_api.Promises.{HasReceived, IsFirstFrom, MayReceiveFirst, MessageView, OfEach, SendsItsFirst, StandsStill, message_view, view_of}
 use Rattle.coordinator.specs.machine_api.Told.{message_read}
 use Rattle.wire_board.proofs.Messages.{at, at_link, at_machine, at_same, deliveries, deliveries_others, hands_again, hands_same, hears_run}
 use Rattle.wire_board.specs.Going.{Cluster, Machine, Setting}
@@ -22,12 +22,12 @@ module _ {M : Type 0} (represents : Setting → ℕ → Machine → M → Type 0
   -- behind the first ones
   module _ (st : Setting) (c : Cluster) (hearing : IsHearing represents y p a (heard ++ message_view message ∷ rest) st c) where
     abbrev there : Cluster
-    there = at c a p a (receives_all st a (map message_read heard) (c.machine a)) (told_by message ∷ map message_read rest)
+    there = at c a p a (receives_all st a (map message_read heard) (c.machine a)) (view_of message ∷ map message_read rest)
 
     first_there : IsFirstFrom represents now p message st there a
     first_there =
         let words : List core.Message = map message_read heard in
-        let left : List core.Message = told_by message ∷ map message_read rest in
+        let left : List core.Message = view_of message ∷ map message_read rest in
         let on : c.link p a ≡ words ++ left = hearing.told ∙ map-append message_read heard (message_view message ∷ rest) in
         let start : at c a p a (c.machine a) (words ++ left) ≡ c = ap (at c a p a (c.machine a)) (sym on) ∙ at_same c a p a in
         let m : Machine = receives_all st a words (c.machine a) in
@@ -53,12 +53,12 @@ module _ {M : Type 0} (represents : Setting → ℕ → Machine → M → Type 0
       subst (λ (ms : List MessageView). IsHearing represents y p a ms st c) (append_assoc heard (message_view message ∷ []) rest) all
       in
       let m : Machine = receives_all st a (map message_read heard) (c.machine a) in
-      let got : represents st a (prompt st a (receives st a (told_by message) ((there st c hearing).machine a))) z = received st (there st c hearing) a (first_there st c hearing) in
-      let here : represents st a (prompt st a (receives st a (told_by message) m)) z =
-      subst (λ (n : Machine). represents st a (prompt st a (receives st a (told_by message) n)) z) (at_machine c a p a m (told_by message ∷ map message_read rest)) got
+      let got : represents st a (prompt st a (receives st a (view_of message) ((there st c hearing).machine a))) z = received st (there st c hearing) a (first_there st c hearing) in
+      let here : represents st a (prompt st a (receives st a (view_of message) m)) z =
+      subst (λ (n : Machine). represents st a (prompt st a (receives st a (view_of message) n)) z) (at_machine c a p a m (view_of message ∷ map message_read rest)) got
       in
       subst (λ (n : Machine). represents st a n z)
-      (sym (ap (λ (ms : List core.Message). receives_all st a ms (c.machine a)) (map-append message_read heard (message_view message ∷ [])) ∙ receives_snoc st a (map message_read heard) (told_by message) (c.machine a))) here
+      (sym (ap (λ (ms : List core.Message). receives_all st a ms (c.machine a)) (map-append message_read heard (message_view message ∷ [])) ∙ receives_snoc st a (map message_read heard) (view_of message) (c.machine a))) here
 
   -- it is what it was
   pub still_heard : (z : M) → StandsStill represents now z → HasHeardAll represents y p a heard (message_view message ∷ rest) z
@@ -79,12 +79,12 @@ module _ {M : Type 0} (represents : Setting → ℕ → Machine → M → Type 0
         let one : HasToldAll represents q told now st a m = has st a m setting here in
         let n : Machine = hands q one.behind m in
         let two : SendsItsFirst represents q message z st a n = sends st a n setting one.after in
-        let behind_is : one.behind ≡ told_by message ∷ two.behind = sym (set_at-same m.part.out q one.behind) ∙ two.first in
+        let behind_is : one.behind ≡ view_of message ∷ two.behind = sym (set_at-same m.part.out q one.behind) ∙ two.first in
         record {
           behind = two.behind;
           first =
               one.first ∙ ap (λ (ms : List core.Message). map message_read told ++ ms) behind_is
-              ∙ sym (ap (λ (ms : List core.Message). ms ++ two.behind) (map-append message_read told (message_view message ∷ [])) ∙ append_assoc (map message_read told) (told_by message ∷ []) two.behind);
+              ∙ sym (ap (λ (ms : List core.Message). ms ++ two.behind) (map-append message_read told (message_view message ∷ [])) ∙ append_assoc (map message_read told) (view_of message ∷ []) two.behind);
           after = subst (λ (k : Machine). represents st a k z) (hands_again q m one.behind two.behind) two.after;
         }
 
