@@ -1,4 +1,6 @@
 pub mod LinkLemmas
+mod Flatten
+mod ListLemmas
 pub mod Goings
 pub mod Lines
 pub mod Making

@@ -1,4 +1,5 @@
 pub mod Going
+pub mod LaterLemmas
 pub mod AtOnceGoing
 pub mod Calling
 pub mod Passing

@@ -1,4 +1,5 @@
 pub mod Traces
+pub mod Later
 pub mod Events
 pub mod AtOnce
 pub mod Calls

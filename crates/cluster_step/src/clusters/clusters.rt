@@ -28,7 +28,7 @@ use std::marker::Model;
 /// machines fail and all go back among it.
 #[derive(Drop)]
 pub struct SnapCluster<M: SavingMachine> {
-    parts: Parts<M>,
+    pub(crate) parts: Parts<M>,
 }
 
 impl<M: SavingMachine> Model for SnapCluster<M> {

@@ -15,7 +15,7 @@ use wire::wire_msgs::Message;
 /// from it.
 #[derive(Drop)]
 pub struct Links {
-    rows: Vec<Vec<Link>>,
+    pub(crate) rows: Vec<Vec<Link>>,
 }
 
 impl Model for Links {

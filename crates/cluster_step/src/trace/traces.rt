@@ -33,11 +33,11 @@ use std::snapshot::Snapshot;
 /// the law may have no such opening, and what is said of each course says nothing.
 #[derive(Drop)]
 pub struct Trace<M: SavingMachine> {
-    cluster: SnapCluster<M>,
-    failures: Vec<FailureAt>,
-    done: Vec<u64>,
-    start: Snapshot<SnapCluster<M>>,
-    since: Snapshot<SnapCluster<M>>,
+    pub(crate) cluster: SnapCluster<M>,
+    pub(crate) failures: Vec<FailureAt>,
+    pub(crate) done: Vec<u64>,
+    pub(crate) start: Snapshot<SnapCluster<M>>,
+    pub(crate) since: Snapshot<SnapCluster<M>>,
 }
 
 impl<M: SavingMachine> Model for Trace<M> {
