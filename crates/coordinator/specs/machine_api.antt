@@ -1,5 +1,6 @@
 pub mod Told
 pub mod AtOnce
 pub mod Deeds
+pub mod Eager
 pub mod Going
 pub mod Promises

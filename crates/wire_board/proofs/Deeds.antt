@@ -26,7 +26,7 @@ use Rattle.call_laws.specs.whole_calls.Following.{FollowJob, has_reached, reache
 use Rattle.wire_board.proofs.Goings.{traces_append, done_stays, follows_append, others_append}
 use Rattle.wire_board.specs.Freeing.{IsFree}
 use Rattle.wire_board.specs.Going.{Cluster, FailureAt, GoesOn, IsSavingClusterOf, IsSnapSetting, Machine, Parts, Setting}
-use Rattle.wire_board.specs.Standings.{AtOnce, CanBeginAtOnce, WorksTo, HasComeTo, IsOwn, Member, Standing, StandsOwing, Update, at_rest}
+use Rattle.wire_board.specs.Standings.{CanBeginAtOnce, WorksTo, HasComeTo, IsOwn, Member, Standing, StandsOwing, at_rest, owing, owing_at_once}
 
 own_turn : (c : Cluster) (d : Deed) → IsOwn d → IsInTurn c d
 own_turn c (Admit v) own = tt
@@ -146,12 +146,6 @@ machine_put represents st setting p c of a low y m here runs next left n k next_
 }
 
 -- ---- what the code has come to
-
-abbrev pub owing : {M : Type 0} → Member M → ScopeId → ℕ → Standing M
-owing member s ticket = record { member = member; owed = Update s ticket }
-
-abbrev pub owing_at_once : {M : Type 0} → Member M → Vertex → ℕ → Standing M
-owing_at_once member v ticket = record { member = member; owed = AtOnce v ticket }
 
 still_few : (next left : ℕ) → 0 < left → next + left < 2 ^ 64 → suc next + pred left < 2 ^ 64
 still_few next left some few = omega arith

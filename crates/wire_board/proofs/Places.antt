@@ -1,6 +1,6 @@
 -- How a machine's seat stands after each step.
 use Rattle.std.proofs.Common.{List, None, Some, [], ap, false, inl, inr, length, refl, sym, true, ◌++◌, ◌==◌, ◌∙◌, ◌∷◌, ◌≡◌, ◌≢◌, ◌⊎◌, ℕ}
-use Rattle.std.specs.Prelude.{IsTrue, ◌↔◌}
+use Rattle.std.specs.Prelude.{Err, IsTrue, Ok, OnErr, Result, ◌↔◌}
 use Rattle.cluster_laws.specs.cluster_core.Actions.{HasFirst}
 use Rattle.cluster_laws.specs.cluster_core.Messages.{Message}
 use Rattle.link_tables.proofs.Standing.{holds_another, holds_taken, rests_changed, rests_given, rests_on, same_queue}
@@ -50,6 +50,11 @@ module _ {M : Type 0} (represents : Setting → ℕ → Machine → M → Type 0
 
     pub queue_is : t.queue ≡ was
     queue_is = same_queue i t.queue was (sym t.holds.slots ∙ there)
+
+-- what is so of an error
+pub at_err : {X E A : Type 0} (r : Result X E) → A → OnErr r A
+at_err (Ok x) a = tt
+at_err (Err e) a = a
 
 -- ---- outboxes
 

@@ -14,7 +14,7 @@ use Rattle.cluster_step.specs.clusters.Clusters.{AreCalls, messages_on}
 use Rattle.cluster_step.specs.clusters.Inner.Writing.{HaveLinks, with_link_between}
 use Rattle.cluster_step.specs.clusters.Links.{message_read}
 use Rattle.coordinator.specs.machine_api.Promises.{CanUpdate, HasHeard, IsReporting, MessageView, OfEach, StandsStill, message_view}
-use Rattle.wire_board.proofs.Deeds.{begins_at_once_goes, begins_goes, comes_goes, owing, owing_at_once}
+use Rattle.wire_board.proofs.Deeds.{begins_at_once_goes, begins_goes, comes_goes}
 use Rattle.wire_board.proofs.Goings.{goes_on_then}
 use Rattle.wire_board.proofs.Holding.{held_link, held_machine, held_ticket, here_is, inside, is_low}
 use Rattle.wire_board.proofs.Messages.{hears_goes, tells_goes}
@@ -23,7 +23,7 @@ use Rattle.wire_board.specs.Freeing.{IsFree}
 use Rattle.wire_board.specs.Going.{FailureAt, GoesOn, Machine, Parts, Setting}
 use Rattle.wire_board.specs.Hearing.{CanHear, HasHeardAll, HasHeardFirst, HasToldAll, HasToldFirst, MayHearFirst}
 use Rattle.wire_board.specs.Led.{HoldParts, HasBeenLed, IsMachineAt, Learns, LinkView, Node, Seated, Standing, link_between, link_no, number_of}
-use Rattle.wire_board.specs.Standings.{CanBeginAtOnce, HasComeTo, Member, StandsOwing, at_rest}
+use Rattle.wire_board.specs.Standings.{CanBeginAtOnce, HasComeTo, Member, StandsOwing, at_rest, owing, owing_at_once}
 use Rattle.wire.specs.declared.wire_msgs.messages.Message.{Message}
 
 under : (x y : ℕ) → x < y → x < suc y

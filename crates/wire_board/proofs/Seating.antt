@@ -6,8 +6,7 @@ use Rattle.gl_base.specs.declared.scopes.ScopeId.{ScopeId}
 use Rattle.coordinator.specs.machine_api.AtOnce.{AreDone, HasUpdatedAtOnce, deeds_at_once}
 use Rattle.coordinator.specs.machine_api.Promises.{Admit, Deed, HasAdmittedSome, HasDone, StandsStill, does}
 use Rattle.coordinator.specs.machine_api.Promises as deed
-use Rattle.wire_board.proofs.Deeds.{owing, owing_at_once}
-use Rattle.wire_board.specs.Standings.{ComesOn, WorksTo, HasComeTo, IsOwn, Machine, Member, Setting, Standing, at_rest}
+use Rattle.wire_board.specs.Standings.{ComesOn, WorksTo, HasComeTo, IsOwn, Machine, Member, Setting, Standing, at_rest, owing, owing_at_once}
 
 module _ {M : Type 0} (represents : Setting → ℕ → Machine → M → Type 0) where
   pub come_nowhere : (y : Member M) → HasComeTo represents (at_rest y) y.machine

@@ -1,15 +1,12 @@
 -- What the threads of a board have led a cluster to, once their parts are together again.
+pub use Rattle.cluster_step.specs.trace.Later.{IsLaterInAttempt}
 pub use Rattle.cluster_step.specs.trace.Traces.{TraceView, IsTraceNow}
 pub use Rattle.wire_board.specs.Led.{Lead, Leading, LinkView, Node, Parts, Seated}
 pub use Rattle.wire_board.specs.Standings.{Machine, Member, Setting, at_rest}
-use Rattle.std.specs.List.{AllByRecursion}
-use Rattle.std.specs.Prelude.{List, false, length, map, slice_index_or, suc, ℕ, ◌++◌, ◌<◌, ◌∷◌, ◌≡◌}
+use Rattle.std.specs.Prelude.{List, false, length, map, slice_index_or, suc, ℕ, ◌<◌, ◌∷◌, ◌≡◌}
 use mathlib.Core.Option.{some}
 use lib.ListN.{get_elem?}
-use Rattle.cluster_laws.specs.cluster_model.Events as law
 use Rattle.cluster_step.specs.clusters.Inner.Writing.{HaveLinks}
-use Rattle.cluster_step.specs.trace.Traces.{Cluster, InEachTrace}
-use Rattle.whole_laws.specs.cluster_whole.Whole.{IsNoRecovery}
 use Rattle.wire_board.specs.Led.{link_between, link_no}
 
 -- the parts of a place in which the machines, at rest, stand behind the coordinator
@@ -33,8 +30,3 @@ pub record ArePutTogether {M : Type 0} (n : ℕ) (lead : Leading) (members : Lis
   pub next_is : q.next ≡ next
   pub left_is : q.left ≡ left
   pub runs : q.stopped ≡ false
-
--- Each course to where the cluster was has gone on to where it is, in the same attempt: among the events since may be acknowledgements.
-abbrev pub IsLaterInAttempt : {M : Type 0} → (Setting → ℕ → Machine → M → Type 0) → TraceView M → TraceView M → Type 0
-IsLaterInAttempt represents old new =
-    InEachTrace represents old (λ st o events c. (more : List law.Event) × (later : Cluster) × AllByRecursion IsNoRecovery more × IsTraceNow represents new st o (events ++ more) later)

@@ -1,4 +1,5 @@
 -- A machine that owes an update, and what it has come to since its seat's last step.
+pub use Rattle.coordinator.specs.machine_api.Eager.{CanBeginAtOnce}
 pub use Rattle.coordinator.specs.machine_api.Going.{IsSnapSetting}
 pub use Rattle.coordinator.specs.machine_api.Promises.{Deed, Machine, OfEach, Setting}
 pub use Rattle.wire_board.specs.declared.standings.Member.{Member}
@@ -7,6 +8,8 @@ pub use Rattle.wire_board.specs.declared.standings.Owed.TheVariants.{AtOnce, Not
 pub use Rattle.wire_board.specs.declared.standings.Standing.{Standing}
 use Rattle.std.specs.List.{AllByRecursion}
 use Rattle.std.specs.Prelude.{List, [], ⊤, ℕ, ◌∷◌}
+use Rattle.gl_base.specs.declared.numbers.Vertex.{Vertex}
+use Rattle.gl_base.specs.declared.scopes.ScopeId.{ScopeId}
 use Rattle.coordinator.specs.machine_api.AtOnce.{AreDone, deeds_at_once}
 use Rattle.coordinator.specs.machine_api.Promises.{Admit, Grant, Mark, Section}
 use Rattle.coordinator.specs.machine_api.Promises as deed
@@ -14,6 +17,13 @@ use Rattle.coordinator.specs.machine_api.Promises as deed
 -- a machine that owes nothing
 abbrev pub at_rest : {M : Type 0} → Member M → Standing M
 at_rest member = record { member = member; owed = Nothing }
+
+-- a machine that owes the update of a ready scope, or one at once, under this ticket
+abbrev pub owing : {M : Type 0} → Member M → ScopeId → ℕ → Standing M
+owing member s ticket = record { member = member; owed = Update s ticket }
+
+abbrev pub owing_at_once : {M : Type 0} → Member M → Vertex → ℕ → Standing M
+owing_at_once member v ticket = record { member = member; owed = AtOnce v ticket }
 
 -- what a machine that was this still has to do
 abbrev pub owed_deeds : Setting → ℕ → Machine → Owed → List Deed
@@ -51,9 +61,3 @@ HasComeTo represents x y = (st : Setting) (a : ℕ) (m : Machine) → IsSnapSett
 -- from each machine for which the old code stands
 abbrev pub ComesOn : {M : Type 0} → (Setting → ℕ → Machine → M → Type 0) → M → M → Type 0
 ComesOn represents old new = OfEach represents old (WorksTo represents new)
-
--- ---- an update at once that it begins
-
--- v may be updated at once, under whatever ticket
-abbrev pub CanBeginAtOnce : {M : Type 0} → (Setting → ℕ → Machine → M → Type 0) → M → ℕ → Type 0
-CanBeginAtOnce represents y v = (ticket : ℕ) (st : Setting) (a : ℕ) (m : Machine) → IsSnapSetting st → represents st a m y → (after : Machine) × AreDone st a (deeds_at_once st a v ticket m) m after

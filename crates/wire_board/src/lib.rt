@@ -5,7 +5,6 @@
 mod boards;
 mod calls;
 mod drawing;
-mod eager;
 mod hearing;
 mod leading;
 mod passing;
@@ -15,7 +14,7 @@ mod talking;
 mod telling;
 
 pub use boards::{About, Board, BoardRule};
+pub use coordinator::machine_api::EagerMachine;
 pub use drawing::Drawn;
-pub use eager::EagerMachine;
 pub use passing::{Heard, Told};
 pub use standings::{Leading, Member, Owed, Seated, Standing};

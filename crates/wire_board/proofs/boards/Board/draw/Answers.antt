@@ -1,14 +1,13 @@
 use Rattle.std.proofs.Common.{[], ap, refl, subst, sym, ◌∙◌, ◌≡◌, ℕ}
-use Rattle.link_tables.proofs.Standing.{rests_on}
+use Rattle.link_tables.proofs.Standing.{rests_changed}
 use Rattle.link_tables.specs.Seats.{saw, word_at}
-use Rattle.coordinator.specs.machine_api.Promises.{HasDone, Update}
-use Rattle.wire_board.proofs.Deeds.{owing}
 use Rattle.wire_board.proofs.Places.{sits_changed, sits_read}
 use Rattle.wire_board.proofs.Ruling.{draws}
 use Rattle.wire_board.proofs.Seating.{come_updated}
 use Rattle.wire_board.specs.Freeing.{IsFree}
 use Rattle.wire_board.specs.Openings.{standing_parts}
 use Rattle.wire_board.specs.Seats.{Member, Node}
+use Rattle.wire_board.specs.Standings.{owing}
 use Rattle.wire_board.proofs.boards.Board.draw.Goals as goal
 
 pub draw-won-requires-clause-rests : goal.draw-won-requires-clause-rests
@@ -16,27 +15,25 @@ draw-won-requires-clause-rests g c =
     let represents = g.M.SavingMachine.represents in
     let s = c.requires.sits in
     let about = c.args.self.now.table.table.shared.key.about in (
-      Node (owing c.args.member.now c.args.scope c.next_ticket-ticket.result),
+      Node (owing c.args.member.now c.args.scope c.args.ticket),
       Node s.was,
       [],
       refl,
-      rests_on c.args.place.now.seat.me c.next_ticket-ticket.new.place.seat.me (Node s.was) [] _ _ s.rests c.next_ticket-ticket.ensures.found,
+      s.rests,
       s.number,
       draws represents about.failures.value.items about.done.value.items (standing_parts about.machines about.opening.value) about.machines s.was c.args.member.now s.number s.peers s.come
-          (subst (λ (k : ℕ). IsFree represents about.failures.value.items about.done.value.items c.args.member.now.machine k) s.number c.requires.free) c.next_ticket-ticket.result c.args.scope c.requires.can,
+          (subst (λ (k : ℕ). IsFree represents about.failures.value.items about.done.value.items c.args.member.now.machine k) s.number c.requires.free) c.args.ticket c.args.scope c.requires.can,
     )
-
-pub returns-then-ticket-top-clause-sits : goal.returns-then-ticket-top-clause-sits
-returns-then-ticket-top-clause-sits g c =
-    sits_read g.M.SavingMachine.represents c.args.member.now c.args.place.now.seat.me c.next_ticket-ticket.new.place.seat.me _ _ c.requires.sits c.next_ticket-ticket.ensures.found
 
 pub returns-then-not-won-clause-sits : goal.returns-then-not-won-clause-sits
 returns-then-not-won-clause-sits g c =
-    let represents = g.M.SavingMachine.represents in
-    let read = sits_read represents c.args.member.now c.args.place.now.seat.me c.next_ticket-ticket.new.place.seat.me _ _ c.requires.sits c.next_ticket-ticket.ensures.found in
+    let s = c.requires.sits in
     let late = c.draw-won.ensures.late c.if-not-won.true in
-    sits_read represents c.args.member.now c.next_ticket-ticket.new.place.seat.me c.draw-won.new.place.seat.me (word_at c.args.self.now.table.many) late.0 read
-    (late.2 ∙ (λ i. (saw c.next_ticket-ticket.new.place.seat.me.0 (word_at c.args.self.now.table.many) late.0, sym read.rests.slots i)))
+    sits_read g.M.SavingMachine.represents c.args.member.now c.args.place.now.seat.me c.draw-won.new.place.seat.me (word_at c.args.self.now.table.many) late.0 s
+    (late.2 ∙ (λ i. (saw c.args.place.now.seat.me.0 (word_at c.args.self.now.table.many) late.0, sym s.rests.slots i)))
+
+pub returns-then-not-won-clause-late : goal.returns-then-not-won-clause-late
+returns-then-not-won-clause-late g c = λ is. let late = c.draw-won.ensures.late c.if-not-won.true in (refl, late.0, late.1, ap (λ me. me.0.found) late.2)
 
 pub returns-in-Ok-clause-sits : goal.returns-in-Ok-clause-sits
 returns-in-Ok-clause-sits g c =
@@ -44,19 +41,19 @@ returns-in-Ok-clause-sits g c =
     let s = c.requires.sits in
     let member = c.args.member.now in
     let made : Member g.row.M.Denot = record { number = member.number; peers = member.peers; machine = c.update.new.self } in
-    let owed = owing member c.args.scope c.next_ticket-ticket.result in
-    sits_changed represents made c.next_ticket-ticket.new.place.seat.me c.draw-won.new.place.seat.me (Node s.was) owed _
-    (rests_on c.args.place.now.seat.me c.next_ticket-ticket.new.place.seat.me (Node s.was) [] _ _ s.rests c.next_ticket-ticket.ensures.found)
-    (c.draw-won.ensures.drawn c.if-not-won.false (Node owed) refl) refl refl
-    (come_updated represents member c.args.scope c.next_ticket-ticket.result made.machine c.in-Ok.ensures.updated)
+    let owed = owing member c.args.scope c.args.ticket in
+    sits_changed represents made c.args.place.now.seat.me c.draw-won.new.place.seat.me (Node s.was) owed _ s.rests (c.draw-won.ensures.drawn c.if-not-won.false (Node owed) refl) refl refl
+    (come_updated represents member c.args.scope c.args.ticket made.machine c.in-Ok.ensures.updated)
 
 pub returns-in-Ok-clause-made : goal.returns-in-Ok-clause-made
 returns-in-Ok-clause-made g c =
-    λ t same.
-    let represents = g.M.SavingMachine.represents in
-    let member = c.args.member.now in
-    let is : c.next_ticket-ticket.result ≡ t = cc in
-    let owed = owing member c.args.scope c.next_ticket-ticket.result in (
-      subst (λ (k : ℕ). HasDone represents member.machine (Update c.args.scope k) c.update.new.self) is c.in-Ok.ensures.updated,
-      ap (λ me. me.0.found) (c.draw-won.ensures.drawn c.if-not-won.false (Node owed) refl) ∙ (λ i. (word_at c.args.self.now.table.many, is i)),
+    λ is.
+    (c.in-Ok.ensures.updated, ap (λ me. me.0.found) (c.draw-won.ensures.drawn c.if-not-won.false (Node (owing c.args.member.now c.args.scope c.args.ticket)) refl))
+
+pub returns-in-Err-clause-owes : goal.returns-in-Err-clause-owes
+returns-in-Err-clause-owes g c =
+    let s = c.requires.sits in
+    let owed = owing c.args.member.now c.args.scope c.args.ticket in (
+      c.in-Err.ensures.unchanged,
+      rests_changed c.args.place.now.seat.me c.draw-won.new.place.seat.me (Node s.was) (Node owed) [] _ s.rests (c.draw-won.ensures.drawn c.if-not-won.false (Node owed) refl),
     )

@@ -1,5 +1,5 @@
 use Rattle.std.proofs.Common.{Some}
-use Rattle.wire_board.proofs.Deeds.{owing_at_once}
+use Rattle.wire_board.specs.Standings.{owing_at_once}
 use Rattle.wire_board.specs.Led.{Node}
 use Rattle.wire_board.proofs.boards.Board.draw_at_once.Given as goal
 
