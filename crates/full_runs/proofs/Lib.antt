@@ -1,0 +1,5 @@
+pub mod TaskLemmas
+pub mod CountLemmas
+pub mod SoFarLemmas
+pub mod EndLemmas
+pub mod PairLemmas

@@ -1,0 +1,2 @@
+pub mod FullEnds
+pub mod Inner

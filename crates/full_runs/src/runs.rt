@@ -1,0 +1,207 @@
+//! Runs of one update after another.
+ghost use Rattle.std.specs.Prelude.{◌≡◌, ℕ, ◌+◌, ◌<◌, true, false, [], length, All, IfOk, OnOk};
+ghost use Rattle.graph_core.specs.DataGraph.{size, IsDataGraph};
+ghost use Rattle.seq_run.specs.Runs.{AreNumbers};
+ghost use Rattle.task_sets.specs.vertex_queue.Flags.{is_flagged};
+ghost use Rattle.full_scope.specs.FullStates.{full_start};
+ghost use Rattle.full_runs.specs.FullEnds.{owner_by, RunsFullyTo};
+ghost use Rattle.full_runs.specs.Inner.SoFar.{AreSoFar};
+
+use crate::tasks::retask;
+use full_cluster::update_at;
+use full_scope::FullProgram;
+use gl_base::{AtomNo, Entry, MachineNo, NoMemory, Vertex};
+use graph_core::Graph;
+use std::alloc::Global;
+use task_sets::vertex_queue::VertexQueue;
+
+/// What a run leaves: the order of its updates, the numbers of the vertices and of the edges, and a
+/// task that is left, if there is one.
+#[derive(Drop)]
+pub struct FullEnd {
+    pub order: Vec<Entry>,
+    pub values: Vec<u64>,
+    pub edges: Vec<u64>,
+    pub left: Option<Vertex>,
+}
+
+/// A run so far: the order of its updates, what this makes of the numbers, and the tasks that it
+/// leaves.
+#[derive(Drop)]
+struct SoFar {
+    order: Vec<Entry>,
+    values: Vec<u64>,
+    edges: Vec<u64>,
+    tasks: VertexQueue,
+}
+
+/// Runs a program until no task is left, but makes no more than `budget` updates. Vertices wait in
+/// ascending order, first in, first out, and the machine of its atom makes each update of a vertex.
+pub fn run_full<P: FullProgram>(
+    alloc: Global,
+    graph: &Graph,
+    program: &P,
+    of: &[AtomNo],
+    owner: &[MachineNo],
+    budget: u64,
+) -> Result<FullEnd, NoMemory>
+    requires undirected { graph.now.directed ≡ false }
+    requires atoms { length of.now ≡ size graph.now }
+    requires owners { All (λ a. a.0 < length owner.now) of.now }
+    ensures { IfOk result (λ end.
+        RunsFullyTo graph.now (P.meaning program.now) (owner_by of.now owner.now) budget
+        end.order.items end.values.items end.edges.items end.left) }
+{
+    let mut run = SoFar::new(alloc, graph, program)?;
+    for _made in 0..budget {
+        let Some(vertex) = run.tasks.front() else {
+            return Ok(run.ended(None));
+        };
+        let machine = machine_of(of, owner, vertex);
+        run.update(alloc, graph, program, machine, vertex)?;
+    }
+    let left = run.tasks.front();
+    Ok(run.ended(left))
+}
+
+impl SoFar {
+    /// A run before its first update: every vertex is a task.
+    fn new<P: FullProgram>(alloc: Global, graph: &Graph, program: &P) -> Result<SoFar, NoMemory>
+        ensures so_far { (owner : ℕ → ℕ) → IfOk result (λ run.
+            AreSoFar graph.now (P.meaning program.now) owner
+            run.order.items run.values.items run.edges.items run.tasks) }
+        ensures none { IfOk result (λ run. run.order.items ≡ []) }
+    {
+        let values = start_values(alloc, graph, program)?;
+        let mut tasks = VertexQueue::none(alloc, graph.n())?;
+        tasks.add_all(graph.n());
+        Ok(SoFar {
+            order: Vec::new(alloc),
+            values,
+            edges: Vec::from_elem(alloc, 0, graph.m() as usize)?,
+            tasks,
+        })
+    }
+
+    /// Makes the update of a task, by this machine.
+    fn update<P: FullProgram>(
+        &mut self,
+        alloc: Global,
+        graph: &Graph,
+        program: &P,
+        machine: MachineNo,
+        v: Vertex,
+    ) -> Result<(), NoMemory>
+        requires graph { IsDataGraph graph.now }
+        requires undirected { graph.now.directed ≡ false }
+        requires count { length self.old.values.items ≡ size graph.now }
+        requires edge_count { length self.old.edges.items ≡ length graph.now.edges }
+        requires task_count { length self.old.tasks ≡ size graph.now }
+        requires task { is_flagged self.old.tasks v.0 ≡ true }
+        ensures so_far { (owner : ℕ → ℕ) → machine.0 ≡ owner v.0 →
+            AreSoFar graph.now (P.meaning program.now) owner
+            self.old.order.items self.old.values.items self.old.edges.items self.old.tasks →
+            OnOk result (AreSoFar graph.now (P.meaning program.now) owner
+            self.new.order.items self.new.values.items self.new.edges.items self.new.tasks) }
+        ensures longer { OnOk result
+            (length self.new.order.items ≡ length self.old.order.items + 1) }
+    {
+        let woken = update_at(alloc, graph, program, v, &mut self.values, &mut self.edges)?;
+        retask(&mut self.tasks, v, woken, graph.halves(v));
+        let ticket = self.order.len() as u64;
+        self.order.push(Entry::Go {
+            ticket,
+            machine,
+            vertex: v,
+        })?;
+        Ok(())
+    }
+
+    /// What the run leaves, where this task is left.
+    fn ended(self, left: Option<Vertex>) -> FullEnd
+        ensures order { result.order ≡ self.order }
+        ensures values { result.values ≡ self.values }
+        ensures edges { result.edges ≡ self.edges }
+        ensures left { result.left ≡ left }
+    {
+        FullEnd {
+            order: self.order,
+            values: self.values,
+            edges: self.edges,
+            left,
+        }
+    }
+}
+
+/// The numbers that the vertices start with.
+fn start_values<P: FullProgram>(
+    alloc: Global,
+    graph: &Graph,
+    program: &P,
+) -> Result<Vec<u64>, NoMemory>
+    ensures { IfOk result (λ values.
+        AreNumbers (size graph.now)
+        (full_start graph.now (P.meaning program.now)).vertex values.items) }
+{
+    let mut values = Vec::with_capacity(alloc, graph.n() as usize)?;
+    for v in 0..graph.n() {
+        values.push(program.start(graph.id(Vertex(v))))?;
+    }
+    Ok(values)
+}
+
+/// The machine of a vertex: that of its atom.
+fn machine_of(of: &[AtomNo], owner: &[MachineNo], v: Vertex) -> MachineNo
+    requires inside { v.0 < length of.now }
+    requires owners { All (λ a. a.0 < length owner.now) of.now }
+    ensures { result.0 ≡ owner_by of.now owner.now v.0 }
+{
+    owner[of[v.0 as usize].0 as usize]
+}
+
+#[cfg(test)]
+mod tests {
+    use super::*;
+    use crate::counts_by_machine;
+    use gl_base::INF;
+    use graph_core::EdgeIn;
+    use prog_match::Pairs;
+
+    /// The edge between the vertices with these identifiers.
+    fn edge(from: u64, to: u64) -> EdgeIn {
+        EdgeIn {
+            from,
+            to,
+            weight: 1,
+        }
+    }
+
+    /// Vertices 1 to 5 with the edges 1 2 and 3 4, the last two vertices on a machine of their own:
+    /// what is left where the budget has an update for each vertex, and where it has one less.
+    #[test]
+    fn matches_two_edges_and_a_vertex_apart(rt: HostRuntime) {
+        let alloc = rt.alloc();
+        let ids = Vec::from_array(alloc, [1, 2, 3, 4, 5]).expect(&rt, "memory");
+        let list = [edge(1, 2), edge(3, 4)];
+        let edges = Vec::from_array(alloc, list).expect(&rt, "memory");
+        let Ok(graph) = Graph::build(alloc, ids, edges, false) else {
+            panic!(rt; "two edges are a graph");
+        };
+        assert_eq!(rt; graph.n(), 5);
+        assert!(rt; !graph.directed());
+        let of = [AtomNo(0), AtomNo(0), AtomNo(0), AtomNo(1), AtomNo(1)];
+        let owner = [MachineNo(0), MachineNo(1)];
+        for (budget, left, counts) in [(5, None, [3, 2]), (4, Some(Vertex(4)), [3, 1])] {
+            let Ok(end) = run_full(alloc, &graph, &Pairs, &of, &owner, budget) else {
+                panic!(rt; "memory");
+            };
+            assert_eq!(rt; end.values.as_slice(), [2, 1, 4, 3, INF].as_slice());
+            assert_eq!(rt; end.edges.as_slice(), [1, 1].as_slice());
+            assert_eq!(rt; end.left, left);
+            let Ok(done) = counts_by_machine(alloc, 2, &end.order) else {
+                panic!(rt; "memory");
+            };
+            assert_eq!(rt; done.as_slice(), counts.as_slice());
+        }
+    }
+}
