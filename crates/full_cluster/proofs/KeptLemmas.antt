@@ -71,6 +71,10 @@ module _ (st : Setting) (is : IsSetting st) (p : FullUpdate) (v me : ℕ) (low :
   left numbers edges vertices marks (AVertex x) inside = vertices.each x inside
   left numbers edges vertices marks (AnEdge e) inside = marks.each e inside
 
+  pub written_has : (numbers edges : List ℕ) → AreNumbers (size st.graph) (after_full st.graph p s v).vertex numbers → AreNumbers (length st.graph.edges) (after_full st.graph p s v).edge edges →
+      (i : Item) → IsItem st.graph i → is_written st v i ≡ true → number_in (state_in numbers edges) i ≡ number_in (after_full st.graph p lent v) i
+  written_has numbers edges vertices marks i inside at = left numbers edges vertices marks i inside ∙ after_same i inside at
+
   numbers_left : (numbers edges : List ℕ) → AreNumbers (size st.graph) (after_full st.graph p s v).vertex numbers → AreNumbers (length st.graph.edges) (after_full st.graph p s v).edge edges →
       (i : Item) → IsItem st.graph i → keeps st me i ≡ true → number_in (state_in numbers edges) i ≡ unwrap_or (its_numbers st (after_full st.graph p lent v) v me i) (part.number i)
   numbers_left numbers edges vertices marks i inside keep = left numbers edges vertices marks i inside ∙ ⊎_elim

@@ -2,15 +2,17 @@
 use Rattle.std.specs.List.{list_any}
 use Rattle.std.specs.Prelude.{◌≡◌, ℕ, ◌<◌, ◌==◌, Bool, true, false, None, Option, Some, unwrap_or, List, [], ◌∷◌, if◌then◌else◌, length, slice_index_or}
 use Rattle.gl_base.specs.declared.numbers.EdgeNo.{EdgeNo}
-use Rattle.gl_base.specs.declared.numbers.MachineNo.{MachineNo}
 use Rattle.gl_base.specs.declared.numbers.Vertex.{Vertex}
 use Rattle.graph_core.specs.DataGraph.{size}
-use Rattle.cluster_laws.specs.cluster_core.Settings.{Setting, is_in_scope}
+use Rattle.cluster_laws.specs.cluster_core.Settings.{IsSetting, Setting, is_in_scope}
 use Rattle.full_laws.specs.FullMessages.{Gift}
 use Rattle.full_laws.specs.FullParts.{FullPart}
-use Rattle.full_laws.specs.Items.{AnEdge, AVertex, IsItem, Item, keeps, number_in}
+use Rattle.full_laws.specs.Items.{AnEdge, AVertex, IsItem, Item, is_written, keeps, number_in}
 use Rattle.full_cluster.specs.Written.{state_in}
-use Rattle.full_cluster.specs.declared.kept.FullGift.{FullGift}
+use Rattle.full_cluster.specs.Owners.{owner_in}
+use Rattle.seq_run.specs.States.{GraphState}
+use Rattle.full_cluster.specs.declared.divisions.Division.{Division}
+use Rattle.full_cluster.specs.declared.giving.FullGift.{FullGift}
 use Rattle.full_cluster.specs.declared.kept.KeptNumbers.{KeptNumbers}
 
 -- the number of x when these were written one after another, where it was `here` before
@@ -53,11 +55,18 @@ pub record HasLists (st : Setting) (a : ℕ) (numbers edges : List ℕ) (tasks :
 abbrev pub HasNumbers : Setting → ℕ → KeptNumbers → FullPart → Type 0
 HasNumbers st a kept part = HasLists st a kept.numbers.items kept.edges.items kept.tasks.items part
 
--- the machine that owns a vertex, by the list of all owners
-abbrev pub owner_in : List MachineNo → ℕ → ℕ
-owner_in owner v = (slice_index_or owner v (record { 0 = 0 })).0
-
 -- these are numbers of all vertices in the scope of v, and of no others
 pub record AreOfScope (st : Setting) (v : ℕ) (seen : ℕ → Option ℕ) : Type 0 where
   pub inside : (x : ℕ) → is_in_scope st v x ≡ true → (n : ℕ) × (seen x ≡ Some n)
   pub outside : (x : ℕ) → is_in_scope st v x ≡ false → seen x ≡ None
+
+-- these are the setting's graph and its owners
+pub record IsDividedAs (st : Setting) (division : Division) : Type 0 where
+  pub setting : IsSetting st
+  pub graph : st.graph ≡ division.graph.now
+  pub owners : st.owner ≡ owner_in division.owner.now
+
+-- what an update of v writes has its number of this state in the machine's lists, whoever keeps it
+abbrev pub HasWritten : Setting → GraphState → ℕ → KeptNumbers → Type 0
+HasWritten st s v kept =
+    (i : Item) → IsItem st.graph i → is_written st v i ≡ true → number_in (state_in kept.numbers.items kept.edges.items) i ≡ number_in s i

@@ -1,4 +1,5 @@
 pub mod WholeLocks
 pub mod Written
+pub mod Owners
 pub mod Given
 pub mod Inner

@@ -6,29 +6,22 @@ ghost use Rattle.graph_core.specs.DataGraph.{size};
 ghost use Rattle.graph_core.specs.Halves.{halves_of};
 ghost use Rattle.seq_run.specs.Inner.Waking.{is_woken_along};
 ghost use Rattle.seq_run.specs.States.{is_woken};
-ghost use Rattle.cluster_laws.specs.cluster_core.Settings.{IsSetting, Setting};
-ghost use Rattle.full_scope.specs.FullStates.{full_wakes};
+ghost use Rattle.cluster_laws.specs.cluster_core.Settings.{Setting};
+ghost use Rattle.full_scope.specs.FullStates.{after_full, full_wakes};
 ghost use Rattle.full_laws.specs.FullEffects.{gathers, lent_full, takes_gift, updated_full};
 ghost use Rattle.full_laws.specs.FullMessages.{Gift};
 ghost use Rattle.full_laws.specs.FullParts.{FullPart};
-ghost use Rattle.full_cluster.specs.Given.{edge_after, is_listed, is_marked, owner_in, vertex_after, AreOfScope, HasLists, HasNumbers, IsGift, IsSeenList};
+ghost use Rattle.full_cluster.specs.Given.{edge_after, is_listed, is_marked, vertex_after, AreOfScope, HasNumbers, HasWritten, IsDividedAs, IsGift, IsSeenList};
+ghost use Rattle.full_cluster.specs.Owners.{owner_in};
 ghost use Rattle.full_cluster.specs.Inner.Rows.{nth_half, wakes_own};
 
 use crate::updates::update_at;
+use crate::{Division, FullGift};
 use full_scope::FullProgram;
 use gl_base::{EdgeNo, MachineNo, NoMemory, Vertex};
-use graph_core::{Graph, Half};
+use graph_core::Half;
 use std::alloc::Global;
 use update_api::Woken;
-
-/// What an update gives another machine: the numbers of that machine's vertices in the scope, those
-/// of the edges to them, and which of them are woken.
-#[derive(Drop)]
-pub struct FullGift {
-    pub numbers: Vec<(Vertex, u64)>,
-    pub edges: Vec<(EdgeNo, u64)>,
-    pub wakes: Vec<Vertex>,
-}
 
 /// A list of the numbers of all vertices, one of those of all edges, and one of which vertices are
 /// tasks. Those that the machine doesn't keep mean nothing.
@@ -67,104 +60,55 @@ impl KeptNumbers {
         mark_all(&mut self.tasks, &gift.wakes);
     }
 
-    /// Makes the update of v at its home `me`, for which these numbers were gathered. Answers whom
-    /// it wakes. After `NoMemory` only the gathered numbers are written.
+    /// Makes the update of v at its home, which owns v, and for which these numbers were gathered.
+    /// Answers whom it wakes. After `NoMemory` only the gathered numbers are written.
     pub fn update<P: FullProgram>(
         &mut self,
         alloc: Global,
-        graph: &Graph,
+        division: &Division<'_>,
         program: &P,
-        owner: &[MachineNo],
-        me: MachineNo,
         v: Vertex,
         seen: &[(Vertex, u64)],
     ) -> Result<Woken, NoMemory>
-        requires undirected { graph.now.directed ≡ false }
-        requires vertex { v.0 < size graph.now }
-        requires owners { length owner.now ≡ size graph.now }
-        requires count { length self.old.numbers.items ≡ size graph.now }
-        requires edge_count { length self.old.edges.items ≡ length graph.now.edges }
-        requires task_count { length self.old.tasks.items ≡ size graph.now }
+        requires vertex { v.0 < size division.now.graph.now }
+        requires count { length self.old.numbers.items ≡ size division.now.graph.now }
+        requires edge_count { length self.old.edges.items ≡ length division.now.graph.now.edges }
+        requires task_count { length self.old.tasks.items ≡ size division.now.graph.now }
         requires seen { All (λ pair. pair.0.0 < length self.old.numbers.items) seen.now }
         ensures updated { (st : Setting) (part : FullPart) (s : ScopeId) (f : ℕ →
-            Option ℕ) (entry : Entry) →
-            IsSetting st → st.graph ≡ graph.now →
-            st.owner ≡ owner_in owner.now → st.owner v.0 ≡ me.0 →
-            HasNumbers st me.0 self.old part → IsSeenList seen.now f → AreOfScope st v.0 f →
+            Option ℕ) (entry : Entry) → IsDividedAs st division.now →
+            let me = st.owner v.0 in HasNumbers st me self.old part →
+            IsSeenList seen.now f → AreOfScope st v.0 f →
             let p = P.meaning program.now in let lent = lent_full f part in
-            OnOk result (HasNumbers st me.0 self.new
-            (updated_full st p me.0 s v.0 lent entry part)) }
-        ensures woken { (st : Setting) (part : FullPart) (f : ℕ → Option ℕ) →
-            IsSetting st → st.graph ≡ graph.now →
-            st.owner ≡ owner_in owner.now → st.owner v.0 ≡ me.0 →
-            HasNumbers st me.0 self.old part → IsSeenList seen.now f → AreOfScope st v.0 f →
+            OnOk result (HasNumbers st me self.new (updated_full st p me s v.0 lent entry part)) }
+        ensures written { (st : Setting) (part : FullPart) (f : ℕ →
+            Option ℕ) → IsDividedAs st division.now →
+            HasNumbers st (st.owner v.0) self.old part → IsSeenList seen.now f → AreOfScope st v.0 f →
+            let s = after_full st.graph (P.meaning program.now) (lent_full f part) v.0 in
+            OnOk result (HasWritten st s v.0 self.new) }
+        ensures woken { (st : Setting) (part : FullPart) (f : ℕ →
+            Option ℕ) → IsDividedAs st division.now →
+            HasNumbers st (st.owner v.0) self.old part → IsSeenList seen.now f → AreOfScope st v.0 f →
             let p = P.meaning program.now in let lent = lent_full f part in
             IfOk result (λ woken. (u : ℕ) →
             full_wakes st.graph p lent v.0 u ≡ is_woken woken (halves_of st.graph v.0) u) }
         ensures same_edges { OnErr result (self.new.edges.items ≡ self.old.edges.items) }
         ensures same_tasks { OnErr result (self.new.tasks.items ≡ self.old.tasks.items) }
     {
-        update_lists(
+        write_vertices(&mut self.numbers, seen);
+        let woken = update_at(
             alloc,
-            graph,
+            division,
             program,
-            owner,
-            me,
             v,
-            seen,
             &mut self.numbers,
             &mut self.edges,
-            &mut self.tasks,
-        )
+        )?;
+        let me = division.owner_of(v);
+        let halves = division.graph.halves(v);
+        finish(&mut self.tasks, halves, division.owner, me, v, woken);
+        Ok(woken)
     }
-}
-
-/// The same on the lists.
-fn update_lists<P: FullProgram>(
-    alloc: Global,
-    graph: &Graph,
-    program: &P,
-    owner: &[MachineNo],
-    me: MachineNo,
-    v: Vertex,
-    seen: &[(Vertex, u64)],
-    numbers: &mut [u64],
-    edges: &mut [u64],
-    tasks: &mut [bool],
-) -> Result<Woken, NoMemory>
-    requires undirected { graph.now.directed ≡ false }
-    requires vertex { v.0 < size graph.now }
-    requires owners { length owner.now ≡ size graph.now }
-    requires count { length numbers.old ≡ size graph.now }
-    requires edge_count { length edges.old ≡ length graph.now.edges }
-    requires task_count { length tasks.old ≡ size graph.now }
-    requires seen { All (λ pair. pair.0.0 < length numbers.old) seen.now }
-    ensures updated { (st : Setting) (part : FullPart) (s : ScopeId) (f : ℕ →
-        Option ℕ) (entry : Entry) →
-        IsSetting st → st.graph ≡ graph.now → st.owner ≡ owner_in owner.now → st.owner v.0 ≡ me.0 →
-        HasLists st me.0 numbers.old edges.old tasks.old part →
-        IsSeenList seen.now f → AreOfScope st v.0 f →
-        let p = P.meaning program.now in let lent = lent_full f part in
-        OnOk result (HasLists st me.0 numbers.new edges.new tasks.new
-        (updated_full st p me.0 s v.0 lent entry part)) }
-    ensures woken { (st : Setting) (part : FullPart) (f : ℕ → Option ℕ) →
-        IsSetting st → st.graph ≡ graph.now → st.owner ≡ owner_in owner.now → st.owner v.0 ≡ me.0 →
-        HasLists st me.0 numbers.old edges.old tasks.old part →
-        IsSeenList seen.now f → AreOfScope st v.0 f →
-        let p = P.meaning program.now in let lent = lent_full f part in
-        IfOk result (λ woken. (u : ℕ) →
-        full_wakes st.graph p lent v.0 u ≡ is_woken woken (halves_of st.graph v.0) u) }
-    ensures same_edges { OnErr result (edges.new ≡ edges.old) }
-    ensures same_tasks { OnErr result (tasks.new ≡ tasks.old) }
-    ensures count_left { length numbers.new ≡ length numbers.old }
-    ensures edge_count_left { length edges.new ≡ length edges.old }
-    ensures task_count_left { length tasks.new ≡ length tasks.old }
-{
-    let _n = graph.n();
-    write_vertices(numbers, seen);
-    let woken = update_at(alloc, graph, program, v, numbers, edges)?;
-    finish(tasks, graph.halves(v), owner, me, v, woken);
-    Ok(woken)
 }
 
 /// Vertex v is a task no more, and those of this machine are that its update wakes.
@@ -255,7 +199,7 @@ fn mark_all(marks: &mut [bool], list: &[Vertex])
 mod tests {
     use super::*;
     use gl_base::INF;
-    use graph_core::EdgeIn;
+    use graph_core::{EdgeIn, Graph};
     use prog_match::Pairs;
 
     /// The edge between the vertices with these identifiers.
@@ -281,23 +225,15 @@ mod tests {
         };
         assert_eq!(rt; graph.n(), 4);
         assert_eq!(rt; graph.m(), 3);
-        assert!(rt; !graph.directed());
         let owner = [MachineNo(0), MachineNo(0), MachineNo(1), MachineNo(1)];
+        let division = Division::new(&graph, &owner).expect(&rt, "four owners");
         let mut home = KeptNumbers {
             numbers: Vec::from_array(alloc, [INF; 4]).expect(&rt, "memory"),
             edges: Vec::from_array(alloc, [0; 3]).expect(&rt, "memory"),
             tasks: Vec::from_array(alloc, [false, false, true, true]).expect(&rt, "memory"),
         };
         let seen = [(Vertex(1), INF), (Vertex(2), INF), (Vertex(3), INF)];
-        let woken = home.update(
-            alloc,
-            &graph,
-            &Pairs,
-            &owner,
-            MachineNo(1),
-            Vertex(2),
-            &seen,
-        );
+        let woken = home.update(alloc, &division, &Pairs, Vertex(2), &seen);
         assert!(rt; matches!(woken, Ok(Woken::Nobody)));
         assert_eq!(rt; home.numbers.as_slice(), [INF, 3, 2, INF].as_slice());
         assert_eq!(rt; home.edges.as_slice(), [0, 1, 0].as_slice());

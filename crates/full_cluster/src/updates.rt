@@ -9,6 +9,7 @@ ghost use Rattle.full_scope.specs.FullStates.{after_full, full_wakes};
 ghost use Rattle.full_cluster.specs.Written.{state_in};
 ghost use Rattle.full_cluster.specs.Inner.Rows.{AreLinksOf, IsRowAlong};
 
+use crate::Division;
 use crate::rows::{links_of, row_along, write_edges, write_ends};
 use full_scope::{FullLink, FullProgram, update_lent};
 use gl_base::{NoMemory, Vertex};
@@ -20,70 +21,83 @@ use update_api::Woken;
 /// and of all edges. After `NoMemory` they are unchanged.
 pub fn update_at<P: FullProgram>(
     alloc: Global,
-    graph: &Graph,
+    division: &Division<'_>,
     program: &P,
     v: Vertex,
     numbers: &mut [u64],
     edges: &mut [u64],
 ) -> Result<Woken, NoMemory>
-    requires undirected { graph.now.directed ≡ false }
-    requires vertex { v.0 < size graph.now }
-    requires count { length numbers.old ≡ size graph.now }
-    requires edge_count { length edges.old ≡ length graph.now.edges }
+    requires vertex { v.0 < size division.now.graph.now }
+    requires count { length numbers.old ≡ size division.now.graph.now }
+    requires edge_count { length edges.old ≡ length division.now.graph.now.edges }
     ensures numbers { let s = state_in numbers.old edges.old in let p = P.meaning program.now in
-        IfOk result (λ woken.
-        AreNumbers (size graph.now) (after_full graph.now p s v.0).vertex numbers.new) }
+        let g = division.now.graph.now in
+        IfOk result (λ woken. AreNumbers (size g) (after_full g p s v.0).vertex numbers.new) }
     ensures edges { let s = state_in numbers.old edges.old in let p = P.meaning program.now in
-        IfOk result (λ woken.
-        AreNumbers (length graph.now.edges) (after_full graph.now p s v.0).edge edges.new) }
+        let g = division.now.graph.now in
+        IfOk result (λ woken. AreNumbers (length g.edges) (after_full g p s v.0).edge edges.new) }
     ensures woken { let s = state_in numbers.old edges.old in let p = P.meaning program.now in
-        IfOk result (λ woken. (u : ℕ) →
-        full_wakes graph.now p s v.0 u ≡ is_woken woken (halves_of graph.now v.0) u) }
+        let g = division.now.graph.now in IfOk result (λ woken. (u : ℕ) →
+        full_wakes g p s v.0 u ≡ is_woken woken (halves_of g v.0) u) }
     ensures unchanged { OnErr result ((numbers.new ≡ numbers.old) × (edges.new ≡ edges.old)) }
 {
-    let _n = graph.n();
-    let halves = graph.halves(v);
-    let links = links_of(alloc, graph, halves)?;
+    let halves = division.graph.halves(v);
+    let links = links_of(alloc, division.graph, halves)?;
     let mut row = row_along(alloc, halves, numbers, edges)?;
-    Ok(update_along(graph, program, v, halves, &links, &mut row, numbers, edges))
+    let around = Around {
+        graph: division.graph,
+        halves,
+        links: &links,
+    };
+    Ok(update_along(program, v, &around, &mut row, numbers, edges))
+}
+
+/// The half-edges at a vertex of a graph, with their links.
+#[derive(Drop)]
+struct Around<'a> {
+    graph: &'a Graph,
+    halves: &'a [Half],
+    links: &'a [FullLink],
 }
 
 /// The same with the half-edges at the vertex, their links, and the numbers along them.
 fn update_along<P: FullProgram>(
-    graph: &Graph,
     program: &P,
     v: Vertex,
-    halves: &[Half],
-    links: &[FullLink],
+    around: &Around<'_>,
     row: &mut [u64],
     numbers: &mut [u64],
     edges: &mut [u64],
 ) -> Woken
-    requires graph { IsDataGraph graph.now }
-    requires undirected { graph.now.directed ≡ false }
-    requires vertex { v.0 < size graph.now }
-    requires count { length numbers.old ≡ size graph.now }
-    requires edge_count { length edges.old ≡ length graph.now.edges }
-    requires halves { map data_half halves.now ≡ halves_of graph.now v.0 }
-    requires links { AreLinksOf graph.now halves.now links.now }
-    requires row { IsRowAlong halves.now numbers.old edges.old row.old }
+    requires graph { IsDataGraph around.now.graph.now }
+    requires undirected { around.now.graph.now.directed ≡ false }
+    requires vertex { v.0 < size around.now.graph.now }
+    requires count { length numbers.old ≡ size around.now.graph.now }
+    requires edge_count { length edges.old ≡ length around.now.graph.now.edges }
+    requires halves { map data_half around.now.halves.now ≡ halves_of around.now.graph.now v.0 }
+    requires links { AreLinksOf around.now.graph.now around.now.halves.now around.now.links.now }
+    requires row { IsRowAlong around.now.halves.now numbers.old edges.old row.old }
     ensures numbers { let s = state_in numbers.old edges.old in let p = P.meaning program.now in
-        AreNumbers (size graph.now) (after_full graph.now p s v.0).vertex numbers.new }
+        let g = around.now.graph.now in
+        AreNumbers (size g) (after_full g p s v.0).vertex numbers.new }
     ensures edges { let s = state_in numbers.old edges.old in let p = P.meaning program.now in
-        AreNumbers (length graph.now.edges) (after_full graph.now p s v.0).edge edges.new }
+        let g = around.now.graph.now in
+        AreNumbers (length g.edges) (after_full g p s v.0).edge edges.new }
     ensures woken { let s = state_in numbers.old edges.old in let p = P.meaning program.now in
-        (u : ℕ) → full_wakes graph.now p s v.0 u ≡ is_woken result (halves_of graph.now v.0) u }
+        let g = around.now.graph.now in (u : ℕ) →
+        full_wakes g p s v.0 u ≡ is_woken result (halves_of g v.0) u }
 {
-    let woken = update_lent(program, graph.id(v), links, &mut numbers[v.0 as usize], row);
-    write_ends(numbers, halves, row);
-    write_edges(edges, halves, row);
+    let id = around.graph.id(v);
+    let woken = update_lent(program, id, around.links, &mut numbers[v.0 as usize], row);
+    write_ends(numbers, around.halves, row);
+    write_edges(edges, around.halves, row);
     woken
 }
 
 #[cfg(test)]
 mod tests {
     use super::*;
-    use gl_base::INF;
+    use gl_base::{INF, MachineNo};
     use graph_core::EdgeIn;
     use prog_match::Pairs;
 
@@ -108,11 +122,19 @@ mod tests {
         };
         assert_eq!(rt; graph.n(), 4);
         assert_eq!(rt; graph.m(), 3);
-        assert!(rt; !graph.directed());
+        let owner = [MachineNo(0); 4];
+        let division = Division::new(&graph, &owner).expect(&rt, "four owners");
         let mut numbers = [INF; 4];
         let mut marks = [0; 3];
         for v in [2, 0] {
-            let woken = update_at(alloc, &graph, &Pairs, Vertex(v), &mut numbers, &mut marks);
+            let woken = update_at(
+                alloc,
+                &division,
+                &Pairs,
+                Vertex(v),
+                &mut numbers,
+                &mut marks,
+            );
             assert!(rt; matches!(woken, Ok(Woken::Nobody)));
             assert_eq!(rt; numbers, [INF, 3, 2, INF]);
             assert_eq!(rt; marks, [0, 1, 0]);

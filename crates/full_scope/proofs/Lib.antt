@@ -5,3 +5,4 @@ pub mod FullGoingOn
 pub mod FullAtRest
 pub mod OneHalf
 pub mod RowLemmas
+pub mod GraphProps

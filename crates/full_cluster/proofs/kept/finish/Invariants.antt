@@ -1,5 +1,6 @@
 use Rattle.std.proofs.Common.{◌≡◌, ℕ, ◌<◌, ◌==◌, ◌&&◌, ◌||◌, not, drop, length}
-use Rattle.full_cluster.specs.Given.{is_marked, owner_in}
+use Rattle.full_cluster.specs.Given.{is_marked}
+use Rattle.full_cluster.specs.Owners.{owner_in}
 use Rattle.full_cluster.specs.Inner.Rows.{wakes_own}
 use Rattle.full_cluster.proofs.kept.finish.Given as goal
 

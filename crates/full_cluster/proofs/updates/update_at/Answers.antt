@@ -3,13 +3,13 @@ use Rattle.std.proofs.Common.{refl}
 use Rattle.full_cluster.proofs.updates.update_at.Goals as goal
 
 pub links_of-requires-clause-ends : goal.links_of-requires-clause-ends
-links_of-requires-clause-ends g c = λ i low. ends_low c.args.graph.now c.n-n.ensures.graph c.args.v.0 c.halves-halves.result.now c.halves-halves.ensures _ i refl low
+links_of-requires-clause-ends g c = λ i low. ends_low c.args.division.now.graph.now c.args.division.now.built c.args.v.0 c.halves-halves.result.now c.halves-halves.ensures _ i refl low
 
 pub links_of-requires-clause-lead : goal.links_of-requires-clause-lead
-links_of-requires-clause-lead g c = lead c.args.graph.now c.n-n.ensures.graph c.args.v.0 c.halves-halves.result.now c.halves-halves.ensures
+links_of-requires-clause-lead g c = lead c.args.division.now.graph.now c.args.division.now.built c.args.v.0 c.halves-halves.result.now c.halves-halves.ensures
 
 pub row_along-requires-clause-ends : goal.row_along-requires-clause-ends
-row_along-requires-clause-ends g c = λ i low. ends_low c.args.graph.now c.n-n.ensures.graph c.args.v.0 c.halves-halves.result.now c.halves-halves.ensures _ i c.requires.count low
+row_along-requires-clause-ends g c = λ i low. ends_low c.args.division.now.graph.now c.args.division.now.built c.args.v.0 c.halves-halves.result.now c.halves-halves.ensures _ i c.requires.count low
 
 pub row_along-requires-clause-edges : goal.row_along-requires-clause-edges
-row_along-requires-clause-edges g c = λ i low. edges_low c.args.graph.now c.n-n.ensures.graph c.args.v.0 c.halves-halves.result.now c.halves-halves.ensures _ i c.requires.edge_count low
+row_along-requires-clause-edges g c = λ i low. edges_low c.args.division.now.graph.now c.args.division.now.built c.args.v.0 c.halves-halves.result.now c.halves-halves.ensures _ i c.requires.edge_count low
