@@ -4,3 +4,4 @@ pub mod LockLemmas
 pub mod GivenLemmas
 pub mod FinishLemmas
 pub mod KeptLemmas
+pub mod GivingLemmas

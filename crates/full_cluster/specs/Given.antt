@@ -1,5 +1,5 @@
 -- Numbers and tasks of a machine as lists, what is gathered of them, and what is given.
-use Rattle.std.specs.List.{list_any}
+use Rattle.std.specs.List.{All, list_any}
 use Rattle.std.specs.Prelude.{◌≡◌, ℕ, ◌<◌, ◌==◌, Bool, true, false, None, Option, Some, unwrap_or, List, [], ◌∷◌, if◌then◌else◌, length, slice_index_or}
 use Rattle.gl_base.specs.declared.numbers.EdgeNo.{EdgeNo}
 use Rattle.gl_base.specs.declared.numbers.Vertex.{Vertex}
@@ -70,3 +70,9 @@ pub record IsDividedAs (st : Setting) (division : Division) : Type 0 where
 abbrev pub HasWritten : Setting → GraphState → ℕ → KeptNumbers → Type 0
 HasWritten st s v kept =
     (i : Item) → IsItem st.graph i → is_written st v i ≡ true → number_in (state_in kept.numbers.items kept.edges.items) i ≡ number_in s i
+
+-- the gift's vertices and edges are of a graph with so many
+pub record IsWithin (vertex_count edge_count : ℕ) (gift : FullGift) : Type 0 where
+  pub numbers : All (λ pair. pair.0.0 < vertex_count) gift.numbers.items
+  pub edges : All (λ pair. pair.0.0 < edge_count) gift.edges.items
+  pub wakes : All (λ u. u.0 < vertex_count) gift.wakes.items

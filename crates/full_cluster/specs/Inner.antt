@@ -1,2 +1,3 @@
 -- What clauses of private functions cite.
 pub mod Rows
+pub mod Giving

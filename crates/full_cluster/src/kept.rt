@@ -149,7 +149,7 @@ fn mark(marks: &mut [bool], u: Vertex, yes: bool)
 }
 
 /// Whether an update wakes the other end of an edge, which leads out of its vertex or not.
-fn is_woken_along(woken: Woken, out: bool) -> bool
+pub fn is_woken_along(woken: Woken, out: bool) -> bool
     ensures { result ≡ is_woken_along woken out }
 {
     match woken {
