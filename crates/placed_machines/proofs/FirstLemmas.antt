@@ -44,7 +44,7 @@ nothing_counted n none = omega (arith, none)
 
 -- ---- a machine with the numbers with which the run begins
 
-module _ (st : Setting) (window : ℕ) (terms : NewTerms) (m : Core) (goes : GoesBy (with_locking st) (Some window) terms) (begins : BeginsAt (with_locking st) m.numbers.local.me.0 (Some window) m.numbers) (made : IsMadeWith terms m.numbers m) where
+module _ (st : Setting) (window : Option ℕ) (terms : NewTerms) (m : Core) (goes : GoesBy (with_locking st) window terms) (begins : BeginsAt (with_locking st) m.numbers.local.me.0 window m.numbers) (made : IsMadeWith terms m.numbers m) where
   abbrev here : ℕ
   here = m.numbers.local.me.0
 
@@ -53,10 +53,10 @@ module _ (st : Setting) (window : ℕ) (terms : NewTerms) (m : Core) (goes : Goe
 
   pub fresh_machine : IsFreshMachine m
   fresh_machine = record {
-    orderly = orderly_here (with_locking st) (Some window) terms here m.numbers m goes begins.numbers begins.part begins.fresh made;
-    places = places_here (with_locking st) (Some window) terms here m.numbers m goes begins.numbers begins.part begins.fresh made;
+    orderly = orderly_here (with_locking st) window terms here m.numbers m goes begins.numbers begins.part begins.fresh made;
+    places = places_here (with_locking st) window terms here m.numbers m goes begins.numbers begins.part begins.fresh made;
     rows = each_row (with_locking st) m.numbers.local begins.part.local begins.part.rows;
-    most = λ v own. let mark = (is_new (with_locking st) (Some window) terms m goes begins made).marks v own in subst (λ (k : ℕ). k ≤ m.terms.base) (sym mark) (omega arith);
+    most = λ v own. let mark = (is_new (with_locking st) window terms m goes begins made).marks v own in subst (λ (k : ℕ). k ≤ m.terms.base) (sym mark) (omega arith);
     outside = begins.fresh.outside;
   }
 

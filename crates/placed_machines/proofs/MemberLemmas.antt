@@ -1,5 +1,5 @@
 -- A machine as its constructors make it, as the engine wants it.
-use Rattle.std.proofs.Common.{◌≡◌, ◌<◌, ℕ, ◌∙◌, All, Some, List, length, ap, sym, subst}
+use Rattle.std.proofs.Common.{◌≡◌, ◌<◌, ℕ, ◌∙◌, All, Option, List, length, ap, sym, subst}
 use Rattle.coordinator.specs.declared.coord_core.steps.Engine.{Engine}
 use Rattle.coordinator.specs.declared.coord_core.steps.Engine.TheVariants.{Chromatic, Locking}
 use Rattle.placed_machines.specs.declared.any_machine.machines.AnyMachine.{AnyMachine}
@@ -18,6 +18,7 @@ use Rattle.placement.specs.graphs.Beginnings.{AreFirstNumbers, AreFreshTasks, Be
 use Rattle.placed_machines.specs.chromatic.Machines.{IsChromaticMachineOf}
 use Rattle.snapshot_machines.specs.saving.Machines.{IsFreshMachine}
 use Rattle.snapshot_machines.specs.locking.Machines.{IsLockingMachineOf}
+use Rattle.machine_core.specs.machine_parts.Settings.{window_of}
 use Rattle.coordinator.specs.snap_update.Snaps.{nothing_since}
 use Rattle.placed_machines.specs.Inner.Making.{AreColoursFor, BeginsWith, GoesBy, IsAnyMachineOf, Machine, RunsBy, Setting, Update, goes_back, takes_locks, with_locking}
 use Rattle.placed_machines.specs.Inner.Members.{CanRunInColours, FitsEngine, IsNewMember, SnapMachineView, in_own_colours}
@@ -33,9 +34,9 @@ pub record IsFirstMachine {P : Type 0} (core : Core) (program : P) (x : SnapMach
   pub kept_is : x.kept ≡ nothing_since core.terms.base x.kept.room
   pub program_is : x.program ≡ program
 
-module _ (st : Setting) (window : ℕ) (terms : NewTerms) (a : ℕ) (n : Numbers) (core : Core) (goes : GoesBy (with_locking st) (Some window) terms) (first : AreFirstNumbers (with_locking st) a n) (ready : IsReadyPart (with_locking st) a n) (fresh : AreFreshTasks (Some window) n.tasks) (made : IsMadeWith terms n core) where
-  begins_in : BeginsAt (with_locking st) core.numbers.local.me.0 (Some window) core.numbers
-  begins_in = begins_here (with_locking st) (Some window) terms a n core goes first ready fresh made
+module _ (st : Setting) (window : Option ℕ) (terms : NewTerms) (a : ℕ) (n : Numbers) (core : Core) (goes : GoesBy (with_locking st) window terms) (first : AreFirstNumbers (with_locking st) a n) (ready : IsReadyPart (with_locking st) a n) (fresh : AreFreshTasks window n.tasks) (made : IsMadeWith terms n core) where
+  begins_in : BeginsAt (with_locking st) core.numbers.local.me.0 window core.numbers
+  begins_in = begins_here (with_locking st) window terms a n core goes first ready fresh made
 
   made_of : IsMadeWith terms core.numbers core
   made_of = made_itself terms n core made
@@ -62,7 +63,7 @@ module _ (st : Setting) (window : ℕ) (terms : NewTerms) (a : ℕ) (n : Numbers
       setting = color_of st window terms core goes begins_in made_of meaning program runs machine.kept.room colours greatest by;
     })
 
-    module _ (law : Machine) (serial : law.part.serial ≡ terms.serial) (same_window : st.window ≡ window) (few : terms.machines < 65536) where
+    module _ (law : Machine) (serial : law.part.serial ≡ terms.serial) (same_window : window ≡ window_of st) (few : terms.machines < 65536) where
       number : core.numbers.local.me.0 ≡ a
       number = ap (λ (k : Numbers). k.local.me.0) made.numbers_are ∙ ready.machine
 

@@ -88,7 +88,7 @@ goes_by g program owner colours run base st n locks many is =
 module _ (g : DataGraph) (program : Update) (owner : ℕ → ℕ) (base : Base) (places : Places) (terms : NewTerms) (locks : terms.terms.locks ≡ takes_locks places.run.engine)
     (st : Setting) (from : IsRunFrom g program owner places.colours.items places.run base st) (goes : GoesBy (with_locking st) (Some places.run.window) terms) where
   pub saves_by : SavesBy st program base terms places
-  saves_by = record { goes = goes; locks = locks; engine = from.engine; window_is = from.window; program_is = from.program_is; begins = from.begins }
+  saves_by = record { goes = goes; locks = locks; engine = from.engine; window_is = sym goes.window_is; program_is = from.program_is; begins = from.begins }
 
   -- with its locks the setting is placed alike
   pub placed_locked : IsOwnedBy g places.run.machines owner (with_locking st)

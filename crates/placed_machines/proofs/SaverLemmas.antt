@@ -1,5 +1,5 @@
 -- A new machine, with its program and as a member of a cluster, stands for the one of the law that has gone back, with locks and by colours.
-use Rattle.std.proofs.Common.{◌≡◌, ◌<◌, ℕ, ◌∙◌, false, Some, List, [], length, ap, sym, subst, refl}
+use Rattle.std.proofs.Common.{◌≡◌, ◌<◌, ℕ, ◌∙◌, false, Option, List, [], length, ap, sym, subst, refl}
 use Rattle.std.specs.Prelude.{nat_lt}
 use Rattle.std.proofs.lemmas.Bool.{lt-ltb, ltb-true}
 use Rattle.std.proofs.lemmas.List.{length-map}
@@ -11,7 +11,7 @@ use Rattle.coordinator.specs.declared.coord_core.steps.Engine.TheVariants.{Chrom
 use Rattle.partition.specs.machine_numbers.Views.{is_flagged}
 use Rattle.machine_core.specs.declared.machine_parts.cores.Core.{Core}
 use Rattle.machine_core.specs.declared.machine_parts.cores.Terms.{Terms}
-use Rattle.machine_core.specs.machine_parts.Settings.{IsPartOf}
+use Rattle.machine_core.specs.machine_parts.Settings.{IsPartOf, window_of}
 use Rattle.placement.specs.places.Colours.{colours_by_place}
 use Rattle.placement.proofs.places.ColourLemmas.{as_many, colour_there, task_there}
 use Rattle.machine_core.proofs.machine_scopes.PickLemmas.{flag_inside}
@@ -31,18 +31,18 @@ use Rattle.placed_machines.proofs.FirstLemmas.{counts_first, kept_first, looks_f
 locked : (st : Setting) → st.engine ≡ Locking → with_locking st ≡ st
 locked st is = λ i. record st { engine = sym is i }
 
-module _ (st : Setting) (window : ℕ) (terms : NewTerms) (m : Core) (goes : GoesBy (with_locking st) (Some window) terms) (begins : BeginsAt (with_locking st) m.numbers.local.me.0 (Some window) m.numbers) (made : IsMadeWith terms m.numbers m) where
+module _ (st : Setting) (window : Option ℕ) (terms : NewTerms) (m : Core) (goes : GoesBy (with_locking st) window terms) (begins : BeginsAt (with_locking st) m.numbers.local.me.0 window m.numbers) (made : IsMadeWith terms m.numbers m) where
   abbrev here : ℕ
   here = m.numbers.local.me.0
 
   part_there : IsPartOf (with_locking st) m
-  part_there = part_is (with_locking st) (Some window) terms m goes begins made
+  part_there = part_is (with_locking st) window terms m goes begins made
 
   -- where scopes take no locks, it is fresh
   pub fresh_in_steps : (colours : List ℕ) → terms.terms.locks ≡ false → IsFreshInSteps m (length (colours_by_place colours m.by_place.items))
   fresh_in_steps colours none =
       let many : length (colours_by_place colours m.by_place.items) ≡ length m.numbers.tasks.task =
-      length-map m.by_place.items _ ∙ as_many (with_locking st) (Some window) m.numbers begins m.by_place.items made.by_place in
+      length-map m.by_place.items _ ∙ as_many (with_locking st) window m.numbers begins m.by_place.items made.by_place in
       record {
         unlocked = ap (λ (t : Terms). t.locks) made.terms_are ∙ none;
         unclaimed = made.unclaimed;
@@ -54,7 +54,7 @@ module _ (st : Setting) (window : ℕ) (terms : NewTerms) (m : Core) (goes : Goe
             lt-ltb u (length (colours_by_place colours m.by_place.items)) (subst (λ (n : ℕ). u < n) (sym many) low))
             (λ below.
             let low = ltb-true u (length (colours_by_place colours m.by_place.items)) below in
-            task_there (with_locking st) (Some window) m.numbers begins m.by_place.items made.by_place u (subst (λ (n : ℕ). u < n) many low));
+            task_there (with_locking st) window m.numbers begins m.by_place.items made.by_place u (subst (λ (n : ℕ). u < n) many low));
         none = λ u. (begins.fresh.pending u, begins.fresh.admitted u);
       }
 
@@ -71,14 +71,14 @@ module _ (st : Setting) (window : ℕ) (terms : NewTerms) (m : Core) (goes : Goe
           colour = by.0;
           greatest = greatest;
           chromatic = by.1;
-          here = colour_there (with_locking st) (Some window) m.numbers begins m.by_place.items made.by_place colours by.0 by.2;
+          here = colour_there (with_locking st) window m.numbers begins m.by_place.items made.by_place colours by.0 by.2;
         };
       }
 
       pub color_of : IsColorSnapOf meaning st (in_own_colours first_machine colours)
       color_of = record { is = record { graph = goes.is.graph; owner = goes.is.owner }; part = color_part; program = runs }
 
-    module _ (law : Machine) (serial : law.part.serial ≡ terms.serial) (same_window : st.window ≡ window) (reports : ℕ) where
+    module _ (law : Machine) (serial : law.part.serial ≡ terms.serial) (same_window : window ≡ window_of st) (reports : ℕ) where
       abbrev back : Machine
       back = goes_back st st.start st.base here law
 
@@ -96,7 +96,7 @@ module _ (st : Setting) (window : ℕ) (terms : NewTerms) (m : Core) (goes : Goe
         here = subst (λ (s : Setting). IsPartOf s m) (locked st locks) part_there;
         number = refl;
         program = runs;
-        window = sym same_window;
+        window = same_window;
         part = looks_first st window terms m goes begins made room law.part serial;
         kept = kept_first st window terms m goes begins made law room;
         counts = counts_first st window terms m goes begins made law;
@@ -120,7 +120,7 @@ module _ (st : Setting) (window : ℕ) (terms : NewTerms) (m : Core) (goes : Goe
         here = color_of colours greatest by;
         few = subst (λ (n : ℕ). n < 65536) (sym goes.machines) few;
         number = refl;
-        window = sym same_window;
+        window = same_window;
         part = looks_first st window terms m goes begins made room law.part serial;
         free = λ v. refl;
         kept = kept_first st window terms m goes begins made law room;

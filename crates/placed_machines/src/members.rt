@@ -1,5 +1,5 @@
 //! A new machine as a member of a cluster, as the engine wants it.
-ghost use Rattle.std.specs.Prelude.{IfOk};
+ghost use Rattle.std.specs.Prelude.{IfOk, Some};
 ghost use Rattle.placed_machines.specs.Inner.Members.{CanRunInColours, FitsEngine, IsNewChromaticMachine, IsNewMember, in_own_colours};
 
 use crate::any_machine::AnyMachine;
@@ -23,9 +23,10 @@ pub fn new_member<P: Program>(
 ) -> Result<AnyMachine<P>, NoMemory>
     requires { FitsEngine P.meaning places.now.run.engine places.now.colours.items machine }
     ensures { IfOk result
-        (IsNewMember places.now.run.engine places.now.colours.items places.now.run.window machine) }
+        (IsNewMember places.now.run.engine places.now.colours.items (Some places.now.run.window)
+        machine) }
 {
-    let window = places.run.window;
+    let window = Some(places.run.window);
     match places.run.engine {
         Engine::Locking => Ok(AnyMachine::Locking(LockingMachine::new(alloc, machine, window))),
         Engine::Chromatic(_) => {
@@ -41,7 +42,7 @@ fn new_color_saver<P: Program>(
     alloc: Global,
     machine: SnapMachine<P>,
     colours: &[u32],
-    window: u32,
+    window: Option<u32>,
 ) -> Result<ChromaticMachine<P>, NoMemory>
     requires { CanRunInColours P.meaning colours.now machine }
     ensures { IfOk result (IsNewChromaticMachine (in_own_colours machine colours.now) window) }

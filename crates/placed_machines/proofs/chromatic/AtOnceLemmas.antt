@@ -1,5 +1,5 @@
 -- An update at once in a step, and what is asked for behind it, for each machine of the law.
-use Rattle.std.proofs.Common.{◌≡◌, ℕ, suc, pred, ◌+◌, ◌/◌, ◌≤◌, ◌&&◌, ◌++◌, not, Bool, true, false, if◌then◌else◌, Option, None, Some, List, [], ◌∷◌, length, map, refl, sym, ap, ◌∙◌, subst, inl, inr, arith}
+use Rattle.std.proofs.Common.{◌≡◌, ℕ, suc, pred, ◌+◌, ◌≤◌, ◌&&◌, ◌++◌, not, Bool, true, false, if◌then◌else◌, Option, None, Some, List, [], ◌∷◌, length, map, refl, sym, ap, ◌∙◌, subst, inl, inr, arith}
 use Rattle.std.specs.Prelude.{is_some, nat_lt}
 use Rattle.gl_base.specs.declared.entries.Entry.{Entry}
 use Rattle.gl_base.specs.declared.numbers.Vertex.{Vertex}
@@ -28,7 +28,8 @@ use Rattle.coordinator.specs.machine_api.Promises.{StandsStill}
 use Rattle.snapshot_machines.proofs.locking.AtOnceLemmas.{HasSameLocks, at_once_standing, may_with, turned}
 use Rattle.snapshot_machines.proofs.locking.TurnLemmas.{entry as entry_of, none_gained, scope, worked_at_once}
 use Rattle.snapshot_machines.proofs.locking.WorkLemmas.{asked_standing}
-use Rattle.coordinator.specs.snap_update.Snaps.{outside_of, with_asking}
+use Rattle.coordinator.specs.snap_update.Snaps.{outside_of}
+use Rattle.snapshot_machines.specs.locking.Asking.{with_asking_in}
 use Rattle.placed_machines.specs.chromatic.Prompting.{CanTellCounts, HasPrompted, HasSlack, HasWantedInSteps}
 use Rattle.placed_machines.specs.chromatic.Machines.{ChromaticMachineView, ColorSnapView, IsChromaticMachineOf, IsColorSnapPart, Machine, ReportsView, Setting, part_of_steps}
 use Rattle.placed_machines.proofs.chromatic.AdmitLemmas.{admit_here, admit_there, busy, can_not_admit, may_now}
@@ -179,7 +180,7 @@ module _ {P : Type 0} (meaning : P → Update) (x : ChromaticMachineView P) (ord
       new = asks st (worked_at_once st a v.0 ticket m)
 
       behind_step : IsInSameStep x.machine behind.machine
-      behind_step = subst (λ (y : ChromaticMachineView P). IsInSameStep x.machine y.machine) (sym asked) (rekept_step x.machine now (with_asking ((x.window + 1) / 2) now.kept) step)
+      behind_step = subst (λ (y : ChromaticMachineView P). IsInSameStep x.machine y.machine) (sym asked) (rekept_step x.machine now (with_asking_in x.window now.kept) step)
 
       run_stands : IsChromaticMachineOf meaning st a new behind
       run_stands =
@@ -188,7 +189,7 @@ module _ {P : Type 0} (meaning : P → Update) (x : ChromaticMachineView P) (ord
           let worked = at_once_standing meaning (saver_apart x) (snap_apart now) reports orderly v ticket (made_apart st is.here.part) run logged local step.same.program (settings_apart x.machine st is.here.part now step.same) told (with_locking st) a (machine_apart m) locking there
           may_m.admit.vertex may_m.admit.owned may_m.is_new.flight in
           kept_on meaning st a m new x behind is behind_step refl refl refl refl (ap (λ (y : ChromaticMachineView P). y.counts.held) asked)
-          (asked_standing meaning (with_locking st) a (worked_at_once (with_locking st) a v.0 ticket (machine_apart m)) (saver_apart working) worked locking (saver_apart behind) (ap saver_apart asked))
+          (asked_standing meaning (with_locking st) a (worked_at_once (with_locking st) a v.0 ticket (machine_apart m)) (saver_apart working) worked (saver_apart behind) (ap saver_apart asked))
 
       can_tell : HasSlack x → CanTellCounts st behind
       can_tell slack =

@@ -62,7 +62,7 @@ module _ {P : Type 0} (meaning : P → Update) (x : ChromaticMachineView P) (now
         (apart meaning st a m x is) in
         kept_on meaning st a m (asks st (commits k m)) x wants is
         (subst (λ (y : ChromaticMachineView P). IsInSameStep x.machine y.machine) (sym asked) (rekept_step x.machine now _ step)) refl refl refl refl (ap (λ (y : ChromaticMachineView P). y.counts.held) asked)
-        (asked_standing meaning (with_locking st) a (commits k (machine_apart m)) (saver_apart behind) there locking (saver_apart wants) (ap saver_apart asked))
+        (asked_standing meaning (with_locking st) a (commits k (machine_apart m)) (saver_apart behind) there (saver_apart wants) (ap saver_apart asked))
 
     pub heard_committed : (last : ChromaticMachineView P) → HasSlack x → HasPrompted meaning wants last → HasHeard (IsChromaticMachineOf meaning) x (sent.Committed k) last
     heard_committed last slack prompts st c a (Committed j) front =

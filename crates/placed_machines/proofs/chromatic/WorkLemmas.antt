@@ -1,5 +1,5 @@
 -- Updates, and what is asked for behind them, for each machine of the law.
-use Rattle.std.proofs.Common.{◌≡◌, ℕ, zero, suc, ◌+◌, ◌/◌, ◌<◌, ◌≤◌, ◌==◌, ◌&&◌, ◌++◌, not, Bool, true, false, if◌then◌else◌, length-append, Option, None, Some, List, [], ◌∷◌, length, refl, sym, ap, ◌∙◌, subst, le_refl, arith}
+use Rattle.std.proofs.Common.{◌≡◌, ℕ, zero, suc, ◌+◌, ◌/◌, ◌<◌, ◌≤◌, ◌==◌, ◌&&◌, ◌||◌, ◌++◌, not, Bool, true, false, if◌then◌else◌, length-append, Option, None, Some, List, [], ◌∷◌, length, refl, sym, ap, ◌∙◌, subst, le_refl, arith}
 use Rattle.std.specs.Prelude.{is_some}
 use Rattle.gl_base.specs.declared.entries.Entry.{Entry}
 use Rattle.gl_base.specs.declared.entries.Entry.TheVariants.{Go}
@@ -28,7 +28,7 @@ use Rattle.snapshot_machines.proofs.locking.StandLemmas.{roomier_stands}
 use Rattle.snapshot_machines.proofs.locking.WorkLemmas.{asked_standing, worked_standing}
 use Rattle.coordinator.specs.snap_update.Snaps.{IsSameButRoom, asked_behind, with_asking}
 use Rattle.snapshot_machines.specs.wave_counts.Counts.{waiting_in}
-use Rattle.snapshot_machines.specs.locking.Asking.{with_wish}
+use Rattle.snapshot_machines.specs.locking.Asking.{asked_in, has_to_ask_in, with_asking_in, with_wish}
 use Rattle.placed_machines.specs.chromatic.Prompting.{CanTellCounts, HasPrompted, HasSlack, HasWantedInSteps}
 use Rattle.placed_machines.specs.chromatic.Machines.{AreToldReports, ChromaticMachineView, ColorSnapView, IsChromaticMachineOf, IsColorSnapPart, Machine, ReportsView, Setting, part_of_steps}
 use Rattle.placed_machines.proofs.chromatic.ApartLemmas.{apart, coloured, kept_on, machine_apart, part_in, saver_apart, settings_apart, snap_apart, snap_setting_apart, stands_apart}
@@ -85,12 +85,32 @@ rekept_step x now kept step =
       closed = step.closed;
     }
 
-module _ {P : Type 0} (x : ChromaticMachineView P) (now : ColorSnapView P) (rest : now ≡ record x.machine { kept = with_asking ((x.window + 1) / 2) x.machine.kept }) where
-  pub asked_some : (k : ℕ) (reports : ReportsView) → Some k ≡ asked_behind ((x.window + 1) / 2) x.machine.kept → reports ≡ with_wish (Some k) x.reports → HasWantedInSteps x (record x { machine = now; reports = reports })
-  asked_some k reports some told = λ i. record x { machine = rest i; reports = (told ∙ ap (λ (o : Option ℕ). with_wish o x.reports) some) i }
+or_false : (b : Bool) → b ≡ (b || false)
+or_false true = refl
+or_false false = refl
 
-  pub asked_none : None ≡ asked_behind ((x.window + 1) / 2) x.machine.kept → HasWantedInSteps x (record x { machine = now })
-  asked_none none = λ i. record x { machine = rest i; reports = ap (λ (o : Option ℕ). with_wish o x.reports) none i }
+-- without a window nothing is
+pub asked_never : {P : Type 0} (x : ChromaticMachineView P) → None ≡ x.window → HasWantedInSteps x x
+asked_never x none =
+    let never : false ≡ has_to_ask_in x.window x.machine.kept = ap (λ (o : Option ℕ). has_to_ask_in o x.machine.kept) none in
+    let same : x.machine.kept.wanted ≡ (x.machine.kept.wanted || false) = or_false x.machine.kept.wanted in
+    λ i. record x {
+      machine = record x.machine { kept = record x.machine.kept { wanted = (same ∙ ap (λ (b : Bool). x.machine.kept.wanted || b) never) i } };
+      reports = ap (λ (b : Bool). with_wish (if b then Some x.machine.kept.acknowledged else None) x.reports) never i;
+    }
+
+module _ {P : Type 0} (x : ChromaticMachineView P) (window : ℕ) (some_window : Some window ≡ x.window) (now : ColorSnapView P) (rest_now : now ≡ record x.machine { kept = with_asking ((window + 1) / 2) x.machine.kept }) where
+  rest : now ≡ record x.machine { kept = with_asking_in x.window x.machine.kept }
+  rest = rest_now ∙ ap (λ (o : Option ℕ). record x.machine { kept = with_asking_in o x.machine.kept }) some_window
+
+  wished : asked_behind ((window + 1) / 2) x.machine.kept ≡ asked_in x.window x.machine.kept
+  wished = ap (λ (o : Option ℕ). asked_in o x.machine.kept) some_window
+
+  pub asked_some : (k : ℕ) (reports : ReportsView) → Some k ≡ asked_behind ((window + 1) / 2) x.machine.kept → reports ≡ with_wish (Some k) x.reports → HasWantedInSteps x (record x { machine = now; reports = reports })
+  asked_some k reports some told = λ i. record x { machine = rest i; reports = (told ∙ ap (λ (o : Option ℕ). with_wish o x.reports) (some ∙ wished)) i }
+
+  pub asked_none : None ≡ asked_behind ((window + 1) / 2) x.machine.kept → HasWantedInSteps x (record x { machine = now })
+  asked_none none = λ i. record x { machine = rest i; reports = ap (λ (o : Option ℕ). with_wish o x.reports) (none ∙ wished) i }
 
 -- ---- an update
 
@@ -123,7 +143,7 @@ module _ {P : Type 0} (meaning : P → Update) (x : ChromaticMachineView P) (now
     new = makes_update st a s v entry m
 
     behind_step : IsInSameStep x.machine behind.machine
-    behind_step = subst (λ (y : ChromaticMachineView P). IsInSameStep x.machine y.machine) (sym asked) (rekept_step x.machine now (with_asking ((x.window + 1) / 2) now.kept) step)
+    behind_step = subst (λ (y : ChromaticMachineView P). IsInSameStep x.machine y.machine) (sym asked) (rekept_step x.machine now (with_asking_in x.window now.kept) step)
 
     made_stands : IsChromaticMachineOf meaning st a new behind
     made_stands =
@@ -131,7 +151,7 @@ module _ {P : Type 0} (meaning : P → Update) (x : ChromaticMachineView P) (now
         let locking = snap_setting_apart st snap in
         let worked = worked_standing meaning (saver_apart x) (snap_apart now) reports orderly s ticket (made st is.here.part) run logged local step.same.program (settings_apart x.machine st is.here.part now step.same) told (with_locking st) a (machine_apart m) locking there in
         kept_on meaning st a m new x behind is behind_step refl refl refl refl (ap (λ (y : ChromaticMachineView P). y.counts.held) asked)
-        (asked_standing meaning (with_locking st) a (works_on (with_locking st) a s v entry (machine_apart m)) (saver_apart working) worked locking (saver_apart behind) (ap saver_apart asked))
+        (asked_standing meaning (with_locking st) a (works_on (with_locking st) a s v entry (machine_apart m)) (saver_apart working) worked (saver_apart behind) (ap saver_apart asked))
 
     flight_is : m.part.flight s ≡ Some v
     flight_is = ap (λ (p : Part). p.flight s) is.part.rest ∙ has.may.flight

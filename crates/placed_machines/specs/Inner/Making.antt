@@ -14,6 +14,7 @@ use Rattle.coordinator.specs.declared.coord_core.steps.Engine.{Engine}
 use Rattle.coordinator.specs.declared.coord_core.steps.Engine.TheVariants.{Chromatic, Locking}
 use Rattle.gl_base.specs.declared.snapshots.Base.{Base}
 use Rattle.graph_core.specs.DataGraph.{DataGraph}
+use Rattle.machine_core.specs.machine_parts.Settings.{window_of}
 use Rattle.placement.specs.declared.places.cores.NewTerms.{NewTerms}
 use Rattle.placed_machines.specs.declared.placing.Places.{Places}
 use Rattle.placed_machines.specs.declared.placing.SavingRun.{SavingRun}
@@ -42,7 +43,7 @@ pub record SavesBy (st : Setting) (program : Update) (base : Base) (terms : NewT
   pub goes : GoesBy (with_locking st) (Some places.run.window) terms
   pub locks : terms.terms.locks ≡ takes_locks places.run.engine
   pub engine : RunsBy places.run.engine places.colours.items st
-  pub window_is : st.window ≡ places.run.window
+  pub window_is : Some places.run.window ≡ window_of st
   pub program_is : st.program ≡ program
   pub begins : BeginsWith st base
 

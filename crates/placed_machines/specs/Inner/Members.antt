@@ -3,7 +3,7 @@ pub use Rattle.placed_machines.specs.chromatic.Machines.{ChromaticMachineView}
 pub use Rattle.snapshot_machines.specs.chromatic.Machines.{ColorSnapView, IsColorSnapOf, IsFreshInSteps, in_no_step}
 pub use Rattle.snapshot_machines.specs.saving.Machines.{SnapMachineView}
 pub use Rattle.snapshot_machines.specs.locking.Machines.{LockingMachineView}
-use Rattle.std.specs.Prelude.{All, List, [], length, true, ℕ, ◌<◌, ◌≡◌}
+use Rattle.std.specs.Prelude.{All, List, Option, [], length, true, ℕ, ◌<◌, ◌≡◌}
 use Rattle.coordinator.specs.declared.coord_core.steps.Engine.{Engine}
 use Rattle.coordinator.specs.declared.coord_core.steps.Engine.TheVariants.{Chromatic, Locking}
 use Rattle.placed_machines.specs.declared.any_machine.machines.AnyMachine.{AnyMachine}
@@ -33,22 +33,22 @@ FitsEngine meaning (Chromatic greatest) colours m = CanRunInColours meaning colo
 
 -- ---- members
 
--- the machine with this window, where nothing was counted and nothing is to be told
-pub record IsNewLockingMachine {P : Type 0} (m : SnapMachineView P) (window : ℕ) (x : LockingMachineView P) : Type 0 where
+-- the machine with this window or without one, where nothing was counted and nothing is to be told
+pub record IsNewLockingMachine {P : Type 0} (m : SnapMachineView P) (window : Option ℕ) (x : LockingMachineView P) : Type 0 where
   pub machine_is : x.machine ≡ m
   pub counts : x.counts ≡ none_counted
   pub window_is : x.window ≡ window
   pub reports : x.reports.messages ≡ []
 
 -- and the same by colours
-pub record IsNewChromaticMachine {P : Type 0} (m : ColorSnapView P) (window : ℕ) (x : ChromaticMachineView P) : Type 0 where
+pub record IsNewChromaticMachine {P : Type 0} (m : ColorSnapView P) (window : Option ℕ) (x : ChromaticMachineView P) : Type 0 where
   pub machine_is : x.machine ≡ m
   pub counts : x.counts ≡ none_counted
   pub window_is : x.window ≡ window
   pub reports : x.reports.messages ≡ []
 
 -- as the engine wants it
-abbrev pub IsNewMember : {P : Type 0} → Engine → List ℕ → ℕ → SnapMachineView P → AnyMachine P → Type 0
+abbrev pub IsNewMember : {P : Type 0} → Engine → List ℕ → Option ℕ → SnapMachineView P → AnyMachine P → Type 0
 IsNewMember Locking colours window m (saver.Locking x) = IsNewLockingMachine m window x
 IsNewMember Locking colours window m (saver.Chromatic x) = ⊥
 IsNewMember (Chromatic greatest) colours window m (saver.Locking x) = ⊥

@@ -3,19 +3,19 @@ pub use Rattle.snapshot_machines.specs.chromatic.Machines.{ColorSnapView, IsColo
 pub use Rattle.cluster_laws.specs.known_parts.Alike.{LooksAlike}
 pub use Rattle.coordinator.specs.machine_api.Promises.{Machine, Setting}
 pub use Rattle.snapshot_machines.specs.locking.Reports.{AreToldReports, ReportsView}
-pub use Rattle.snapshot_machines.specs.locking.Machines.{ArePlansOf, IsSavedRight}
+pub use Rattle.snapshot_machines.specs.locking.Machines.{ArePlansOf, IsSavedRight, window_of}
 pub use Rattle.coordinator.specs.snap_update.Holding.{IsSnapPartOf}
 pub use Rattle.coordinator.specs.snap_update.Snaps.{IsSavedOnce}
 pub use Rattle.snapshot_machines.specs.wave_counts.Counts.{CountsView, IsCountOf}
-use Rattle.std.specs.Prelude.{[], ℕ, ◌<◌, ◌≡◌}
+use Rattle.std.specs.Prelude.{Option, [], ℕ, ◌<◌, ◌≡◌}
 use Rattle.update_api.specs.Updates.{Update}
 
--- a machine that goes by colours, what it counts, how many of its updates may be outside the last acknowledged snapshot, and what it tells
--- the coordinator
+-- a machine that goes by colours, what it counts, how many of its updates may be outside the last acknowledged snapshot, where snapshots are
+-- taken, and what it tells the coordinator
 pub record ChromaticMachineView (P : Type 0) : Type 0 where
   pub machine : ColorSnapView P
   pub counts : CountsView
-  pub window : ℕ
+  pub window : Option ℕ
   pub reports : ReportsView
 
 -- Of a cluster with this setting, whose machines have numbers, it is machine a, where programs mean this, and has what m has: it holds its
@@ -26,7 +26,7 @@ pub record IsChromaticMachineOf {P : Type 0} (meaning : P → Update) (st : Sett
   pub here : IsColorSnapOf meaning st x.machine
   pub few : st.machines < 65536
   pub number : x.machine.core.numbers.local.me.0 ≡ a
-  pub window : x.window ≡ st.window
+  pub window : x.window ≡ window_of st
   pub part : LooksAlike st a m.part (part_of_steps x.machine)
   pub free : (v : ℕ) → m.part.queue v ≡ []
   pub kept : IsSnapPartOf x.machine.kept m

@@ -1,9 +1,8 @@
 -- How a machine answers the wave that it holds, and what is made sure of before.
 pub use Rattle.coordinator.specs.machine_api.Promises.{OfEach}
-use Rattle.std.specs.Prelude.{true, is_some, ◌+◌, ◌/◌, ◌<◌, ◌≡◌}
+use Rattle.std.specs.Prelude.{true, is_some, ◌<◌, ◌≡◌}
 use Rattle.cluster_laws.specs.cluster_model.Working.{prompt}
-use Rattle.snapshot_machines.specs.locking.Asking.{with_wish}
-use Rattle.coordinator.specs.snap_update.Snaps.{asked_behind, with_asking}
+use Rattle.snapshot_machines.specs.locking.Asking.{asked_in, with_asking_in, with_wish}
 use Rattle.update_api.specs.Updates.{Update}
 use Rattle.snapshot_machines.specs.wave_counts.Counts.{HasSlackFor, MayTellCounts, waiting_in}
 use Rattle.placed_machines.specs.chromatic.Machines.{ChromaticMachineView, IsChromaticMachineOf, IsColorSnapPart, Setting, part_of_steps}
@@ -28,10 +27,10 @@ HasSlack x = (st : Setting) → IsColorSnapPart st x.machine → is_some x.count
 abbrev pub HasPrompted : {P : Type 0} → (P → Update) → ChromaticMachineView P → ChromaticMachineView P → Type 0
 HasPrompted meaning old new = OfEach (IsChromaticMachineOf meaning) old (λ st a m. CanTellCounts st old → IsChromaticMachineOf meaning st a (prompt st a m) new)
 
--- it asks where half of the window is outside, and it hasn't asked yet
+-- it asks where it has to
 abbrev pub HasWantedInSteps : {P : Type 0} → ChromaticMachineView P → ChromaticMachineView P → Type 0
 HasWantedInSteps old new =
     new ≡ record old {
-      machine = record old.machine { kept = with_asking ((old.window + 1) / 2) old.machine.kept };
-      reports = with_wish (asked_behind ((old.window + 1) / 2) old.machine.kept) old.reports;
+      machine = record old.machine { kept = with_asking_in old.window old.machine.kept };
+      reports = with_wish (asked_in old.window old.machine.kept) old.reports;
     }

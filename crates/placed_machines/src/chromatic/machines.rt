@@ -11,12 +11,13 @@ use update_api::Program;
 
 /// A machine that goes by colours and takes part in snapshots, with what it counts for waves, the
 /// wave that it has to answer still, and what it tells the coordinator. At most `window` of its
-/// updates may be outside the last snapshot that was acknowledged.
+/// updates may be outside the last snapshot that was acknowledged; without a window no snapshots
+/// are taken.
 #[derive(Drop)]
 pub struct ChromaticMachine<P: Program> {
     pub(crate) machine: ColorSnapMachine<P>,
     pub(crate) counts: WaveCounts,
-    pub(crate) window: u32,
+    pub(crate) window: Option<u32>,
     pub(crate) reports: Reports,
 }
 
@@ -35,7 +36,11 @@ impl<P: Program> Model for ChromaticMachine<P> {
 
 impl<P: Program> ChromaticMachine<P> {
     /// The machine, where nothing was counted, no wave is held and nothing is to be told.
-    pub fn new(alloc: Global, machine: ColorSnapMachine<P>, window: u32) -> ChromaticMachine<P>
+    pub fn new(
+        alloc: Global,
+        machine: ColorSnapMachine<P>,
+        window: Option<u32>,
+    ) -> ChromaticMachine<P>
         ensures machine { result.machine ≡ machine }
         ensures counts { result.counts ≡ none_counted }
         ensures window { result.window ≡ window }

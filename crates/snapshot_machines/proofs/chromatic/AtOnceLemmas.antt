@@ -1,5 +1,5 @@
 -- An update at once in a step: who may be updated, and who stands in line behind it.
-use Rattle.std.proofs.Common.{◌≡◌, ◌⊎◌, ℕ, ◌<◌, ◌==◌, ◌&&◌, ◌||◌, not, Bool, true, false, true≢false, Option, None, Some, is_some, List, length, get_or, set, refl, sym, ap, ◌∙◌, subst, arith, inl, inr}
+use Rattle.std.proofs.Common.{◌≡◌, ℕ, ◌<◌, ◌==◌, ◌&&◌, ◌||◌, not, Bool, true, false, true≢false, Option, None, Some, is_some, List, length, get_or, set, refl, sym, ap, ◌∙◌, subst, arith, inl, inr}
 use Rattle.std.specs.Prelude.{slice_get}
 use Rattle.std.specs.List.{list_any}
 use Rattle.std.specs.Option.{option_map}
@@ -18,7 +18,7 @@ use Rattle.local_graph.specs.declared.sides.Side.{Side}
 use Rattle.partition.specs.machine_numbers.Views.{datum_here, flag_there, is_flagged, place_at}
 use Rattle.machine_core.specs.declared.machine_at_once.finding.Found.{Found}
 use Rattle.machine_core.specs.declared.machine_parts.cores.Core.{Core}
-use Rattle.machine_core.specs.machine_parts.Parts.{flight_at, is_own, is_ready, number_of, parts_at, pending_here, sides_at, task_here}
+use Rattle.machine_core.specs.machine_parts.Parts.{flight_at, is_own, is_ready, number_of, parts_at, pending_here, sides_at}
 use Rattle.machine_core.proofs.machine_at_once.Scopes.{alone_where, interior_alone}
 use Rattle.machine_core.proofs.machine_scopes.AdmitLemmas.{picked_at}
 use Rattle.machine_core.proofs.machine_scopes.PickLemmas.{free_from, free_parts}
@@ -33,12 +33,12 @@ use Rattle.scope_locks.specs.declared.scope_pipe.flights.Flight.{Flight}
 use Rattle.task_sets.specs.task_sched.Tasks.{is_open}
 use Rattle.task_sets.specs.declared.task_sched.task_sets.Pick.{Pick}
 use Rattle.snapshot_machines.specs.chromatic.Admitting.{CanAdmitByColour}
-use Rattle.snapshot_machines.specs.chromatic.AtOnce.{CanUpdateByColour, HasLoggedAtOnce, HasNoneByColour, HasRunAtOnce, HasUpdatedByColour, MayNotUpdateByColour, MayUpdateByColour, at_once, entry_at_once}
-use Rattle.snapshot_machines.specs.chromatic.Machines.{ColorSnapView, IsOrderly, IsPartOf, KnowsPlaces, Part, Setting, SnapMachineView, part_of, part_of_steps, with_locking, with_snaps}
+use Rattle.snapshot_machines.specs.chromatic.AtOnce.{CanUpdateByColour, HasLoggedAtOnce, HasNoneByColour, HasRunAtOnce, HasUpdatedByColour, MayUpdateByColour, at_once, entry_at_once}
+use Rattle.snapshot_machines.specs.chromatic.Machines.{ColorSnapView, IsOrderly, IsPartOf, KnowsPlaces, Part, Setting, SnapMachineView, part_of, with_locking, with_snaps}
 use Rattle.snapshot_machines.specs.chromatic.Inner.Keeping.{AreBothInLine, IsWithoutLocks, seen_in_steps}
 use Rattle.snapshot_machines.specs.chromatic.Inner.Picking.{IsDueInStep, IsFoundInStep, IsNoneDueInStep, WaitsAt}
 use Rattle.snapshot_machines.proofs.chromatic.AdmitLemmas.{admits_none, admits_none_closed, may_admit, taken_in_line}
-use Rattle.snapshot_machines.proofs.chromatic.KeepLemmas.{own_low, stand_apart}
+use Rattle.snapshot_machines.proofs.chromatic.KeepLemmas.{stand_apart}
 use Rattle.snapshot_machines.proofs.chromatic.LineLemmas.{HasLeft, StandApart, near_in_line}
 use Rattle.snapshot_machines.proofs.chromatic.PartLemmas.{locking_setting, snaps_logged}
 use Rattle.snapshot_machines.proofs.chromatic.TurnLemmas.{end_among}

@@ -1,5 +1,5 @@
 -- From what the machine's own calls answer to what a cluster is promised.
-use Rattle.std.proofs.Common.{Global, Vec, ◌≡◌, ◌↔◌, ℕ, ◌+◌, ◌/◌, ◌++◌, Bool, true, false, true≢false, Option, None, Some, List, [], ◌∷◌, length, refl, sym, ap, ◌∙◌, subst}
+use Rattle.std.proofs.Common.{Global, Vec, ◌≡◌, ◌↔◌, ℕ, ◌+◌, ◌/◌, ◌++◌, ◌||◌, if◌then◌else◌, Bool, true, false, true≢false, Option, None, Some, List, [], ◌∷◌, length, refl, sym, ap, ◌∙◌, subst}
 use Rattle.std.specs.Prelude.{Result, Ok, Err, IfNone, IfSome, IsErrOf, OnErr, OnOk, option_map, slice_get}
 use Rattle.std.specs.Result.{is_err}
 use Rattle.gl_base.specs.declared.numbers.MachineNo.{MachineNo}
@@ -31,7 +31,7 @@ use Rattle.wire.specs.declared.wire_msgs.messages.Done as word
 use Rattle.wire.specs.declared.wire_msgs.messages.Message as message
 use Rattle.wire.specs.declared.wire_msgs.messages.Message.TheVariants as sent
 use Rattle.snapshot_machines.specs.locking.Reports.{ReportsView, with_report}
-use Rattle.snapshot_machines.specs.locking.Asking.{HasToldCounts, HasWanted, with_wish}
+use Rattle.snapshot_machines.specs.locking.Asking.{HasToldCounts, HasWanted, asked_in, has_to_ask_in, with_asking_in, with_wish}
 use Rattle.snapshot_machines.specs.locking.Machines.{CountsView, IsPartOf, IsLockingMachineOf, LockingMachineView, Setting, part_of}
 use Rattle.snapshot_machines.proofs.locking.StandLemmas.{reports_stand}
 use Rattle.snapshot_machines.proofs.locking.ScopeLemmas.{to_now}
@@ -92,12 +92,37 @@ mark_home m s orderly may = (orderly.flights.given s (record { 0 = may.vertex })
 
 -- ---- what is asked for
 
-module _ {P : Type 0} (x : LockingMachineView P) (now : SnapMachineView P) (kept : now.kept ≡ with_asking ((x.window + 1) / 2) x.machine.kept) (core : now.core ≡ x.machine.core) (program : now.program ≡ x.machine.program) where
-  pub asked_some : (k : ℕ) (reports : ReportsView) → Some k ≡ asked_behind ((x.window + 1) / 2) x.machine.kept → reports ≡ with_report (wire.Want k) x.reports → HasWanted x (record x { machine = now; reports = reports })
-  asked_some k reports some told = λ i. record x { machine = record { core = core i; kept = kept i; program = program i }; reports = (told ∙ ap (λ (o : Option ℕ). with_wish o x.reports) some) i }
+or_false : (b : Bool) → b ≡ (b || false)
+or_false true = refl
+or_false false = refl
 
-  pub asked_none : None ≡ asked_behind ((x.window + 1) / 2) x.machine.kept → HasWanted x (record x { machine = now })
-  asked_none none = λ i. record x { machine = record { core = core i; kept = kept i; program = program i }; reports = ap (λ (o : Option ℕ). with_wish o x.reports) none i }
+-- without a window nothing is
+pub asked_never : {P : Type 0} (x : LockingMachineView P) → None ≡ x.window → HasWanted x x
+asked_never x none =
+    let never : false ≡ has_to_ask_in x.window x.machine.kept = ap (λ (o : Option ℕ). has_to_ask_in o x.machine.kept) none in
+    let same : x.machine.kept.wanted ≡ (x.machine.kept.wanted || false) = or_false x.machine.kept.wanted in
+    λ i. record x {
+      machine = record x.machine { kept = record x.machine.kept { wanted = (same ∙ ap (λ (b : Bool). x.machine.kept.wanted || b) never) i } };
+      reports = ap (λ (b : Bool). with_wish (if b then Some x.machine.kept.acknowledged else None) x.reports) never i;
+    }
+
+module _ {P : Type 0} (x : LockingMachineView P) (window : ℕ) (some_window : Some window ≡ x.window) (now : SnapMachineView P) (kept_now : now.kept ≡ with_asking ((window + 1) / 2) x.machine.kept) (core : now.core ≡ x.machine.core) (program : now.program ≡ x.machine.program) where
+  kept : now.kept ≡ with_asking_in x.window x.machine.kept
+  kept = kept_now ∙ ap (λ (o : Option ℕ). with_asking_in o x.machine.kept) some_window
+
+  abbrev wish : Option ℕ
+  wish = asked_behind ((window + 1) / 2) x.machine.kept
+
+  wished : wish ≡ asked_in x.window x.machine.kept
+  wished = ap (λ (o : Option ℕ). asked_in o x.machine.kept) some_window
+
+  pub asked_some : (k : ℕ) (reports : ReportsView) → Some k ≡ wish → reports ≡ with_report (wire.Want k) x.reports → HasWanted x (record x { machine = now; reports = reports })
+  asked_some k reports one told =
+      let some : Some k ≡ asked_in x.window x.machine.kept = one ∙ wished in
+      λ i. record x { machine = record { core = core i; kept = kept i; program = program i }; reports = (told ∙ ap (λ (o : Option ℕ). with_wish o x.reports) some) i }
+
+  pub asked_none : None ≡ wish → HasWanted x (record x { machine = now })
+  asked_none none = λ i. record x { machine = record { core = core i; kept = kept i; program = program i }; reports = ap (λ (o : Option ℕ). with_wish o x.reports) (none ∙ wished) i }
 
 -- ---- a wave
 

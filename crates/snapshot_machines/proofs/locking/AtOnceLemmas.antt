@@ -139,7 +139,7 @@ module _ {P : Type 0} (meaning : P → Update) (x : LockingMachineView P) (order
     can.vertex.0,
     λ st a m snap is. record {
       may = at_once_here meaning st a m x is can.vertex.0 (can.may st snap.is is.here);
-      room = room_is meaning st a m x is snap counted ∙ can.opened;
+      room = room_is meaning st a m x is counted ∙ can.opened;
     },
   )
 
@@ -152,7 +152,7 @@ module _ {P : Type 0} (meaning : P → Update) (x : LockingMachineView P) (order
         may = admit_here meaning st a m x is one.0.0 (one.1 st is.here);
         room = ⊎_elim
             (λ (set : (part_of x.machine.core).pending one.0.0 ≡ true). inl (pending_is meaning st a m x is one.0.0 ∙ set))
-            (λ (opened : is_open x.machine.core.numbers.tasks ≡ true). inr (room_is meaning st a m x is snap counted ∙ opened))
+            (λ (opened : is_open x.machine.core.numbers.tasks ≡ true). inr (room_is meaning st a m x is counted ∙ opened))
             one.3;
       },
       λ may. one.2 st snap.is is.here (at_once_there meaning st a m x is one.0.0 may.may),
@@ -278,11 +278,11 @@ module _ {P : Type 0} (meaning : P → Update) (x : LockingMachineView P) (now :
   pub updated_at_once : (behind : LockingMachineView P) → HasWanted (record x { machine = now; reports = reports }) behind → HasUpdatedAtOnce (IsLockingMachineOf meaning) x v.0 ticket behind
   updated_at_once behind asked st a m snap is =
       let may : MayUpdateAtOnce st a v.0 m.part 1 = at_once_here meaning st a m x is v.0 (has.may st snap.is is.here) in
-      let within : MayUpdateWithin st a v.0 m = record { may = may; room = room_is meaning st a m x is snap counted ∙ has.opened } in
+      let within : MayUpdateWithin st a v.0 m = record { may = may; room = room_is meaning st a m x is counted ∙ has.opened } in
       let worked = at_once_standing meaning x now reports orderly v ticket has.after run logged local program settings told st a m snap is may.admit.vertex may.admit.owned may.is_new.flight in
       record {
         may = within;
         after = asks st (worked_at_once st a v.0 ticket m);
         done = done_at_once st a v.0 ticket m snap.is is.here.engine may is.none_held (closed_is meaning st a m x is) within;
-        here = asked_standing meaning st a (worked_at_once st a v.0 ticket m) (record x { machine = now; reports = reports }) worked snap behind asked;
+        here = asked_standing meaning st a (worked_at_once st a v.0 ticket m) (record x { machine = now; reports = reports }) worked behind asked;
       }

@@ -173,7 +173,7 @@ module _ {P : Type 0} (meaning : P → Update) (x : LockingMachineView P) (now :
         let m : Machine = c.machine a in
         still_stands meaning st a (asks st (commits j m)) behind
         (subst (λ (i : ℕ). IsLockingMachineOf meaning st a (asks st (commits i m)) behind) front.told
-        (asked_standing meaning st a (commits k m) left (committed_standing st a m front.here) front.setting behind asked))
+        (asked_standing meaning st a (commits k m) left (committed_standing st a m front.here) behind asked))
     heard_committed behind asked st c a (Begin j) front = absurd front.told
     heard_committed behind asked st c a (Wave j) front = absurd front.told
     heard_committed behind asked st c a (Step j) front = absurd front.told

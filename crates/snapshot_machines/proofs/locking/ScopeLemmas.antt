@@ -192,7 +192,7 @@ module _ {P : Type 0} (meaning : P → Update) (x : LockingMachineView P) (order
             may = admit_here meaning st a m x is centre may_core;
             room = ⊎_elim
                 (λ (set : (part_of old).pending centre ≡ true). inl (pending_is meaning st a m x is centre ∙ set))
-                (λ (opened : is_open old.numbers.tasks ≡ true). inr (room_is meaning st a m x is snap counted ∙ opened))
+                (λ (opened : is_open old.numbers.tasks ≡ true). inr (room_is meaning st a m x is counted ∙ opened))
                 has.can.room;
           }
 
@@ -245,7 +245,7 @@ module _ {P : Type 0} (meaning : P → Update) (x : LockingMachineView P) (order
       may = admit_here meaning st a m x is can.vertex.0 (can.may st is.here);
       room = ⊎_elim
           (λ (set : (part_of old).pending can.vertex.0 ≡ true). inl (pending_is meaning st a m x is can.vertex.0 ∙ set))
-          (λ (opened : is_open old.numbers.tasks ≡ true). inr (room_is meaning st a m x is snap counted ∙ opened))
+          (λ (opened : is_open old.numbers.tasks ≡ true). inr (room_is meaning st a m x is counted ∙ opened))
           can.room;
     },
   )
@@ -255,7 +255,7 @@ module _ {P : Type 0} (meaning : P → Update) (x : LockingMachineView P) (order
       none st is.here v
       (⊎_elim
       (λ (set : m.part.pending v ≡ true). inl (sym (pending_is meaning st a m x is v) ∙ set))
-      (λ (room : has_room st m ≡ true). inr (sym (room_is meaning st a m x is snap counted) ∙ room))
+      (λ (room : has_room st m ≡ true). inr (sym (room_is meaning st a m x is counted) ∙ room))
       may.room)
       (admit_there meaning st a m x is v may.may)
 

@@ -1,5 +1,5 @@
 -- What a machine that stands for one of the law has of it, and what stays so.
-use Rattle.std.proofs.Common.{◌≡◌, ℕ, ◌+◌, ◌<◌, ◌≤◌, ◌&&◌, ◌||◌, not, Bool, true, false, Option, None, Some, length, refl, sym, ap, ◌∙◌, subst, sum_by}
+use Rattle.std.proofs.Common.{◌≡◌, ℕ, ◌+◌, ◌<◌, ◌≤◌, ◌&&◌, ◌||◌, not, Bool, true, false, if◌then◌else◌, Option, None, Some, length, refl, sym, ap, ◌∙◌, subst, sum_by}
 use Rattle.std.specs.Prelude.{is_some, nat_lt}
 use Rattle.gl_base.specs.declared.numbers.MachineNo.{MachineNo}
 use Rattle.update_api.specs.Updates.{Update}
@@ -10,10 +10,9 @@ use Rattle.cluster_laws.proofs.cluster_moves.DueKept.{IsKept}
 use Rattle.partition.specs.declared.machine_numbers.keeping.Numbers.{Numbers}
 use Rattle.partition.specs.machine_numbers.Views.{TasksView}
 use Rattle.machine_core.specs.declared.machine_parts.cores.Core.{Core}
-use Rattle.machine_core.specs.machine_parts.Settings.{SameSettings, window_of}
+use Rattle.machine_core.specs.machine_parts.Settings.{SameSettings}
 use Rattle.snapshot_machines.specs.saving.Machines.{SnapMachineView}
 use Rattle.coordinator.specs.snap_update.Snaps.{IsSameButRoom, outside_of}
-use Rattle.coordinator.specs.machine_api.Going.{IsSnapSetting}
 use Rattle.coordinator.specs.machine_api.Promises.{StandsStill}
 use Rattle.task_sets.specs.task_sched.Tasks.{is_below, is_open}
 use Rattle.snapshot_machines.specs.locking.Machines.{ArePlansOf, AreToldReports, IsMarkedOwn, IsLockingMachineOf, IsSavedOnce, IsSavedRight, IsSnapPartOf, LooksAlike, Machine, Part, ReportsView, LockingMachineView, Setting, SnapView, flag_there, part_held, part_of, place_at, with_snaps}
@@ -57,14 +56,15 @@ module _ {P : Type 0} (meaning : P → Update) (st : Setting) (a : ℕ) (m : Mac
   pub outside_is : outside m ≡ outside_of x.machine.kept
   outside_is = λ i. sum_by (λ (n : ℕ). n) (is.kept.unsure i) + length (is.kept.before i) + length (is.kept.behind i)
 
-  pub room_is : IsSnapSetting st → x.machine.core.numbers.tasks.outside ≡ outside_of x.machine.kept → has_room st m ≡ is_open x.machine.core.numbers.tasks
-  room_is snap counted =
-      let t = x.machine.core.numbers.tasks in
-      let sum : outside m + m.plans ≡ t.outside + t.plans = λ i. (outside_is ∙ sym counted) i + is.plans.many i in
-      let window : t.window ≡ Some st.window = is.here.window ∙ ap (λ (b : Bool). window_of (record st { stored = b })) snap.stored in
-      ap (λ (b : Bool). not b || nat_lt (outside m + m.plans) st.window) snap.stored
-      ∙ ap (λ (k : ℕ). nat_lt k st.window) sum
-      ∙ sym (ap (λ (o : Option ℕ). is_below o (t.outside + t.plans)) window)
+  abbrev tasks : TasksView
+  tasks = x.machine.core.numbers.tasks
+
+  room_by : (b : Bool) → tasks.window ≡ (if b then Some st.window else None) → outside m + m.plans ≡ tasks.outside + tasks.plans → (not b || nat_lt (outside m + m.plans) st.window) ≡ is_open tasks
+  room_by true some sum = ap (λ (k : ℕ). nat_lt k st.window) sum ∙ sym (ap (λ (o : Option ℕ). is_below o (tasks.outside + tasks.plans)) some)
+  room_by false none sum = sym (ap (λ (o : Option ℕ). is_below o (tasks.outside + tasks.plans)) none)
+
+  pub room_is : x.machine.core.numbers.tasks.outside ≡ outside_of x.machine.kept → has_room st m ≡ is_open x.machine.core.numbers.tasks
+  room_is counted = room_by st.stored is.here.window (λ i. (outside_is ∙ sym counted) i + is.plans.many i)
 
 -- ---- plans and what was saved stay so
 

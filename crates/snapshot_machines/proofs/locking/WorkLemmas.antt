@@ -1,5 +1,5 @@
 -- Updates, and what is asked for behind them, for each machine of the law.
-use Rattle.std.proofs.Common.{◌≡◌, ℕ, suc, pred, ◌+◌, ◌/◌, ◌<◌, ◌==◌, ◌&&◌, ◌||◌, ◌++◌, not, Bool, true, false, true≢false, if◌then◌else◌, Option, None, Some, List, [], ◌∷◌, refl, sym, ap, ◌∙◌, subst, ⊎_elim, arith}
+use Rattle.std.proofs.Common.{◌≡◌, ℕ, suc, pred, ◌+◌, ◌<◌, ◌==◌, ◌&&◌, ◌||◌, ◌++◌, not, Bool, true, false, true≢false, if◌then◌else◌, Option, None, Some, List, [], ◌∷◌, refl, sym, ap, ◌∙◌, subst, ⊎_elim, arith}
 use Rattle.std.specs.Prelude.{nat_le, nat_lt, slice_set}
 use Rattle.std.proofs.lemmas.Bool.{cases_Bool}
 use Rattle.std.proofs.lemmas.List.{get_or-set_other}
@@ -38,12 +38,12 @@ use Rattle.cluster_laws.proofs.known_parts.SeenLemmas.{own_seen, seen_of}
 use Rattle.coordinator.specs.machine_api.Deeds.{Update as UpdateDeed, updates_centre}
 use Rattle.coordinator.specs.machine_api.Going.{IsSnapSetting}
 use Rattle.coordinator.specs.machine_api.Promises.{CanNotDo, CanUpdate, HasDone, TellsReport}
-use Rattle.coordinator.specs.snap_update.Snaps.{IsSameButRoom, has_to_ask, with_entry}
+use Rattle.coordinator.specs.snap_update.Snaps.{IsSameButRoom, with_entry}
 use Rattle.snapshot_machines.proofs.wave_counts.CountLemmas.{counts_put_out}
 use Rattle.wire.specs.wire_msgs.Views.{MessageView}
 use Rattle.wire.specs.wire_msgs.Views as wire
 use Rattle.snapshot_machines.specs.locking.Reports.{AreToldReports, ReportsView}
-use Rattle.snapshot_machines.specs.locking.Asking.{HasWanted, with_wish}
+use Rattle.snapshot_machines.specs.locking.Asking.{HasWanted, has_to_ask_in, with_wish}
 use Rattle.snapshot_machines.specs.locking.Machines.{ArePlansOf, IsLockingMachineOf, IsSavedOnce, IsSavedRight, LooksAlike, Machine, LockingMachineView, Setting, SnapView, flag_there, part_held, part_of, place_at, size, with_snaps}
 use Rattle.snapshot_machines.proofs.locking.StandLemmas.{alike_to, kept_from, outside_is, saved_kept, still_stands}
 
@@ -96,15 +96,20 @@ module _ {P : Type 0} (meaning : P → Update) (st : Setting) (a : ℕ) (m : Mac
         reports = asked_reports test x.reports x.machine.kept.acknowledged m.acknowledged m.out is.kept.acknowledged is.reports;
       }
 
-  test_is : IsSnapSetting st → asks_more st m ≡ has_to_ask ((x.window + 1) / 2) x.machine.kept
-  test_is snap =
-      ap (λ (b : Bool). b && not m.wanted && nat_le (half_window st) (outside m)) snap.stored
-      ∙ (λ i. not (is.kept.wanted i) && nat_le ((sym is.window i + 1) / 2) (outside_is meaning st a m x is i))
+  -- it has to ask where the law asks
+  test_by : (b : Bool) → x.window ≡ (if b then Some st.window else None) → (b && not m.wanted && nat_le (half_window st) (outside m)) ≡ has_to_ask_in x.window x.machine.kept
+  test_by true some =
+      (λ i. not (is.kept.wanted i) && nat_le (half_window st) (outside_is meaning st a m x is i))
+      ∙ sym (ap (λ (o : Option ℕ). has_to_ask_in o x.machine.kept) some)
+  test_by false none = sym (ap (λ (o : Option ℕ). has_to_ask_in o x.machine.kept) none)
 
-  pub asked_standing : IsSnapSetting st → (now : LockingMachineView P) → HasWanted x now → IsLockingMachineOf meaning st a (asks st m) now
-  asked_standing snap now has =
+  test_is : asks_more st m ≡ has_to_ask_in x.window x.machine.kept
+  test_is = test_by st.stored is.window
+
+  pub asked_standing : (now : LockingMachineView P) → HasWanted x now → IsLockingMachineOf meaning st a (asks st m) now
+  asked_standing now has =
       subst (IsLockingMachineOf meaning st a (asks st m)) (sym has)
-      (subst (λ (test : Bool). IsLockingMachineOf meaning st a (asks_if test m) (asked_if (has_to_ask ((x.window + 1) / 2) x.machine.kept) x)) (sym (test_is snap)) (asked_by (has_to_ask ((x.window + 1) / 2) x.machine.kept)))
+      (subst (λ (test : Bool). IsLockingMachineOf meaning st a (asks_if test m) (asked_if (has_to_ask_in x.window x.machine.kept) x)) (sym test_is) (asked_by (has_to_ask_in x.window x.machine.kept)))
 
 -- ---- an update
 
@@ -317,7 +322,7 @@ module _ {P : Type 0} (meaning : P → Update) (x : LockingMachineView P) (now :
       update_may st a (part_held x) m.part (alike_turned st a m.part (part_held x) is.part) s 1
       (record { vertex = has.may.vertex; flight = has.may.flight; ready = has.may.ready; not_pending = has.may.not_pending; task = has.may.task; ticket = has.may.ticket }) in
       let new : Machine = makes_update st a s v entry m in
-      let stands : IsLockingMachineOf meaning st a new behind = asked_standing meaning st a (works_on st a s v entry m) worked (worked_standing st a m snap is) snap behind asked in (
+      let stands : IsLockingMachineOf meaning st a new behind = asked_standing meaning st a (works_on st a s v entry m) worked (worked_standing st a m snap is) behind asked in (
         (home st a m snap is, may_m),
         subst (λ (o : Option ℕ). IsLockingMachineOf meaning st a (prompt st a (updates_centre st a s ticket o m)) behind) (sym (flight_same st a m snap is s ∙ has.may.flight))
             (still_stands meaning st a new behind stands),

@@ -5,7 +5,7 @@ pub use Rattle.cluster_laws.specs.cluster_core.Settings.{nth_edge}
 pub use Rattle.graph_core.specs.DataGraph.{size}
 pub use Rattle.partition.specs.machine_numbers.Views.{flag_there, place_at}
 pub use Rattle.machine_core.specs.machine_parts.Parts.{part_of}
-pub use Rattle.machine_core.specs.machine_parts.Settings.{IsPartOf}
+pub use Rattle.machine_core.specs.machine_parts.Settings.{IsPartOf, window_of}
 pub use Rattle.snapshot_machines.specs.saving.Machines.{SnapMachineView, SnapView}
 pub use Rattle.cluster_laws.specs.known_parts.Alike.{LooksAlike}
 pub use Rattle.snapshot_machines.specs.marking.Keeping.{with_snaps}
@@ -14,17 +14,17 @@ pub use Rattle.snapshot_machines.specs.locking.Reports.{AreToldReports, ReportsV
 pub use Rattle.coordinator.specs.snap_update.Holding.{IsSnapPartOf}
 pub use Rattle.coordinator.specs.snap_update.Snaps.{IsSavedOnce}
 pub use Rattle.snapshot_machines.specs.wave_counts.Counts.{CountsView, IsCountOf}
-use Rattle.std.specs.Prelude.{None, Some, false, true, ℕ, ◌<◌, ◌≡◌, ◌≤◌}
+use Rattle.std.specs.Prelude.{None, Option, Some, false, true, ℕ, ◌<◌, ◌≡◌, ◌≤◌}
 use Rattle.gl_base.specs.declared.scopes.ScopeId.{ScopeId}
 use Rattle.partition.specs.declared.machine_numbers.keeping.Numbers.{Numbers}
 use Rattle.update_api.specs.Updates.{Update}
 
--- a machine that takes part in snapshots, what it counts, how many of its updates may be outside the last acknowledged snapshot, and what
--- it tells the coordinator
+-- a machine that takes part in snapshots, what it counts, how many of its updates may be outside the last acknowledged snapshot, where
+-- snapshots are taken, and what it tells the coordinator
 pub record LockingMachineView (P : Type 0) : Type 0 where
   pub machine : SnapMachineView P
   pub counts : CountsView
-  pub window : ℕ
+  pub window : Option ℕ
   pub reports : ReportsView
 
 -- its part, with what it keeps for snapshots
@@ -63,7 +63,7 @@ pub record IsLockingMachineOf {P : Type 0} (meaning : P → Update) (st : Settin
   pub here : IsPartOf st x.machine.core
   pub number : x.machine.core.numbers.local.me.0 ≡ a
   pub program : st.program ≡ meaning x.machine.program
-  pub window : x.window ≡ st.window
+  pub window : x.window ≡ window_of st
   pub part : LooksAlike st a m.part (part_held x)
   pub kept : IsSnapPartOf x.machine.kept m
   pub counts : IsCountOf st x.counts m

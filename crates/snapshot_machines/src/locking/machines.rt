@@ -11,12 +11,12 @@ use update_api::Program;
 
 /// A machine that takes part in snapshots, and at which scopes take locks, with what it counts for
 /// waves and with what it tells the coordinator. At most `window` of its updates may be outside the
-/// last snapshot that was acknowledged.
+/// last snapshot that was acknowledged; without a window no snapshots are taken.
 #[derive(Drop)]
 pub struct LockingMachine<P: Program> {
     pub(crate) machine: SnapMachine<P>,
     pub(crate) counts: WaveCounts,
-    pub(crate) window: u32,
+    pub(crate) window: Option<u32>,
     pub(crate) reports: Reports,
 }
 
@@ -38,7 +38,7 @@ impl<P: Program> Model for LockingMachine<P> {
 
 impl<P: Program> LockingMachine<P> {
     /// The machine, where nothing was counted and nothing is to be told.
-    pub fn new(alloc: Global, machine: SnapMachine<P>, window: u32) -> LockingMachine<P>
+    pub fn new(alloc: Global, machine: SnapMachine<P>, window: Option<u32>) -> LockingMachine<P>
         requires { machine.core.terms.locks ≡ true }
         ensures machine { result.machine ≡ machine }
         ensures counts { result.counts ≡ none_counted }

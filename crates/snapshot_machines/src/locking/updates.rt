@@ -1,5 +1,5 @@
 //! Updates.
-ghost use Rattle.std.specs.Prelude.{◌≡◌, ◌<◌, IfNone, IfOk, IfSome, OnOk, OnErr, IsErrOf};
+ghost use Rattle.std.specs.Prelude.{◌≡◌, ◌<◌, Some, IfNone, IfOk, IfSome, OnOk, OnErr, IsErrOf};
 ghost use Rattle.coordinator.specs.machine_api.AtOnce.{CanNotUpdateAtOnce, CanUpdateAtOnce, HasUpdatedAtOnce};
 ghost use Rattle.coordinator.specs.machine_api.Promises.{Update, CanDo, CanNotDo, CanUpdate, CanUpdateNone, HasDone, StandsStill};
 ghost use Rattle.snapshot_machines.specs.locking.Asking.{HasWanted};
@@ -72,13 +72,24 @@ impl<P: Program> LockingMachine<P> {
         self.machine.next_update()
     }
 
-    /// Asks for a snapshot where half of the window is outside the last one, and none was asked for
-    /// behind that yet. It takes no memory.
+    /// Asks for a snapshot where there is a window, half of that is outside the last one, and none
+    /// was asked for behind that yet. It takes no memory.
     pub(crate) fn ask(&mut self)
         requires { 0 < self.old.reports.room }
         ensures { HasWanted self.old self.new }
     {
-        let half = (self.window as u64 + 1) / 2;
+        if let Some(window) = self.window {
+            self.ask_within(window);
+        }
+    }
+
+    /// The same, where this is the window.
+    fn ask_within(&mut self, window: u32)
+        requires room { 0 < self.old.reports.room }
+        requires window { self.old.window ≡ Some window }
+        ensures { HasWanted self.old self.new }
+    {
+        let half = (window as u64 + 1) / 2;
         if let Some(acknowledged) = self.machine.ask(half) {
             self.reports.put(Message::Want { acknowledged });
         }
