@@ -126,7 +126,7 @@ fn answer(
     let Some(Message::Wave { wave }) = coordinator.outbox_take(m) else {
         return false;
     };
-    counts.hold(wave);
+    counts.begin_answer(wave);
     let held = counts.holds_wave();
     let Ok(sent) = counts.put_out(0) else {
         return false;
