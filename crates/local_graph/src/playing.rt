@@ -26,6 +26,14 @@ const NO_DATUM: Datum = Datum {
     mark: 0,
 };
 
+/// The lines of a machine: of its own vertices, and of the ghosts beside them.
+#[derive(Drop)]
+struct MachineLines<'a> {
+    me: MachineNo,
+    own: &'a [VertexLine],
+    ghosts: &'a [GhostLine],
+}
+
 impl LocalGraph {
     /// Machine `me`'s part of a graph, from the lines of its vertices, the ghosts beside them and
     /// the edges at them: the atom that it has where each vertex is in the atom with the number of
@@ -55,16 +63,12 @@ impl LocalGraph {
         };
         let halves = halves_by_vertex(alloc, &ends)?;
         let room = 2 * lines.edges.len();
-        play_halves(
-            alloc,
+        let played = MachineLines {
             me,
-            &lines.vertices,
-            &lines.ghosts,
-            outline,
-            first,
-            &halves,
-            room,
-        )
+            own: &lines.vertices,
+            ghosts: &lines.ghosts,
+        };
+        play_halves(alloc, &played, outline, first, &halves, room)
     }
 
     /// Machine `me`'s part of this graph, one of so many machines, from the lines of its own
@@ -94,7 +98,8 @@ impl LocalGraph {
         };
         let halves = graph.half_rows();
         let room = count_halves(own, halves);
-        play_halves(alloc, me, own, ghosts, outline, first, halves, room)
+        let lines = MachineLines { me, own, ghosts };
+        play_halves(alloc, &lines, outline, first, halves, room)
     }
 }
 
@@ -114,53 +119,51 @@ fn count_halves(own: &[VertexLine], halves: &Rows<Half>) -> usize {
 /// for so many sides is made at first.
 fn play_halves(
     alloc: Global,
-    me: MachineNo,
-    own: &[VertexLine],
-    ghosts: &[GhostLine],
+    lines: &MachineLines<'_>,
     outline: Outline,
     first: Vertex,
     halves: &Rows<Half>,
     room: usize,
 ) -> Result<LocalGraph, NoMemory>
-    requires vertices { All (λ v. v.vertex.0 < outline.vertices) own.now }
-    requires ghosts { All (λ g. g.vertex.0 < outline.vertices) ghosts.now }
-    requires few { length own.now + length ghosts.now ≤ outline.vertices }
+    requires vertices { All (λ v. v.vertex.0 < outline.vertices) lines.now.own.now }
+    requires ghosts { All (λ g. g.vertex.0 < outline.vertices) lines.now.ghosts.now }
+    requires few { length lines.now.own.now + length lines.now.ghosts.now ≤ outline.vertices }
     requires limit { outline.vertices ≤ MAX_VERTICES }
     requires many { outline.vertices ≤ length halves.now }
     requires edges { HaveEdgesBelow outline.vertices outline.edges halves.now }
-    ensures { IfOk result (λ local. IsPlayedBy me own.now ghosts.now halves.now outline local) }
+    ensures { IfOk result (λ local.
+        IsPlayedBy lines.now.me lines.now.own.now lines.now.ghosts.now halves.now outline local) }
 {
-    let order = growth_order(alloc, own, outline.vertices, first, halves)?;
-    play_in_order(alloc, me, own, ghosts, outline, &order, halves, room)
+    let order = growth_order(alloc, lines.own, outline.vertices, first, halves)?;
+    play_in_order(alloc, lines, outline, &order, halves, room)
 }
 
 /// The same with the own vertices in this order.
 fn play_in_order(
     alloc: Global,
-    me: MachineNo,
-    own: &[VertexLine],
-    ghosts: &[GhostLine],
+    lines: &MachineLines<'_>,
     outline: Outline,
     order: &[VertexLine],
     halves: &Rows<Half>,
     room: usize,
 ) -> Result<LocalGraph, NoMemory>
-    requires vertices { All (λ v. v.vertex.0 < outline.vertices) own.now }
-    requires ghosts { All (λ g. g.vertex.0 < outline.vertices) ghosts.now }
-    requires few { length own.now + length ghosts.now ≤ outline.vertices }
+    requires vertices { All (λ v. v.vertex.0 < outline.vertices) lines.now.own.now }
+    requires ghosts { All (λ g. g.vertex.0 < outline.vertices) lines.now.ghosts.now }
+    requires few { length lines.now.own.now + length lines.now.ghosts.now ≤ outline.vertices }
     requires limit { outline.vertices ≤ MAX_VERTICES }
     requires many { outline.vertices ≤ length halves.now }
     requires edges { HaveEdgesBelow outline.vertices outline.edges halves.now }
-    requires order { IsPermutation own.now order.now }
-    ensures { IfOk result (λ local. IsPlayedBy me own.now ghosts.now halves.now outline local) }
+    requires order { IsPermutation lines.now.own.now order.now }
+    ensures { IfOk result (λ local.
+        IsPlayedBy lines.now.me lines.now.own.now lines.now.ghosts.now halves.now outline local) }
 {
-    let known = list_known(alloc, order, ghosts)?;
+    let known = list_known(alloc, order, lines.ghosts)?;
     let places = Places::new(alloc, &known, outline.vertices)?;
-    let owned = list_vertices(alloc, own)?;
+    let owned = list_vertices(alloc, lines.own)?;
     let standing = Standing {
-        me,
+        me: lines.me,
         many: order.len(),
-        ghosts,
+        ghosts: lines.ghosts,
         places: &places,
     };
     let sources = Sources {
@@ -171,9 +174,9 @@ fn play_in_order(
         machines: outline.machines,
     };
     let lists = make_by_place(alloc, &sources, &standing, room)?;
-    let beside = make_beside(alloc, ghosts, order, outline.edges)?;
+    let beside = make_beside(alloc, lines.ghosts, order, outline.edges)?;
     Ok(LocalGraph {
-        me,
+        me: lines.me,
         owned,
         ghosts: beside.ghosts,
         places,
