@@ -115,7 +115,15 @@ fn make<P: Program>(
     let degree = core.numbers.local.sides(flight.centre).len();
     let spare = spares.fitted(alloc, degree)?;
     let work = take_work(core, flight, spare);
-    complete(alloc, core, spares, program, work, prepared, ticket)
+    let terms = CommitTerms { prepared, ticket };
+    complete(alloc, core, spares, program, work, terms)
+}
+
+/// What an update is committed with: room for what other machines are told, and its ticket.
+#[derive(Drop)]
+struct CommitTerms {
+    prepared: Vec<Prepared>,
+    ticket: u64,
 }
 
 /// Makes the update of a work that is out, and commits it. For want of memory the work is put back.
@@ -125,16 +133,15 @@ fn complete<P: Program>(
     spares: &mut Spares,
     program: &P,
     work: Work,
-    prepared: Vec<Prepared>,
-    ticket: u64,
+    terms: CommitTerms,
 ) -> Result<(), NoMemory>
     requires orderly { IsOrderly core.old }
     requires out { IsOut core.old work }
     requires row { IsRow work.row.links.items
         (length (sides_at core.old.numbers.local work.vertex.0)) }
-    requires reserved { IsReserved core.old work.scope work.vertex prepared.items }
+    requires reserved { IsReserved core.old work.scope work.vertex terms.prepared.items }
     ensures completed { OnOk result
-        (HasCompleted (P.meaning program.now) core.old core.new work ticket) }
+        (HasCompleted (P.meaning program.now) core.old core.new work terms.ticket) }
     ensures run { OnOk result (HasRunAt core.old core.new work.vertex) }
     ensures part { OnErr result (part_of core.new ≡ part_of core.old) }
     ensures back { OnErr result
@@ -173,7 +180,7 @@ fn complete<P: Program>(
     match Outcome::in_list(spares.for_outcome(alloc), work) {
         Ok(mut outcome) => {
             outcome.update(program);
-            spares.keep_all(commit(core, outcome, prepared, ticket));
+            spares.keep_all(commit(core, outcome, terms.prepared, terms.ticket));
             Ok(())
         }
         Err(work) => {

@@ -13,6 +13,7 @@ ghost use Rattle.machine_core.specs.machine_updates.Reserving.{CanTell, is_to_be
 use crate::machine_parts::Core;
 use gl_base::{Entry, MachineNo, NoMemory, Peer, ScopeId, Vertex};
 use partition::machine_numbers::blank_done;
+use scope_locks::scope_pipe::Flight;
 use std::alloc::Global;
 use wire::outboxes::Outboxes;
 use wire::wire_msgs::Done;
@@ -51,11 +52,11 @@ pub fn reserve_commit(
     reserve_log(&mut core.numbers.log, version)?;
     let local = &core.numbers.local;
     let degree = local.sides(v).len();
+    let flight = Flight { scope, centre: v };
     prepare(
         alloc,
         &mut core.out,
-        scope,
-        v,
+        flight,
         local.parts(v),
         local.me(),
         degree,
@@ -77,20 +78,19 @@ pub fn reserve_log(log: &mut Vec<Entry>, version: u32) -> Result<(), NoMemory>
     Ok(())
 }
 
-/// Makes room for what each of these machines but `me` will be told of the update of a scope of v,
-/// which has so many edges, and hands it out.
+/// Makes room for what each of these machines but `me` will be told of the update of a scope, whose
+/// vertex has so many edges, and hands it out.
 pub fn prepare(
     alloc: Global,
     out: &mut Outboxes,
-    scope: ScopeId,
-    v: Vertex,
+    flight: Flight,
     parts: &[MachineNo],
     me: MachineNo,
     degree: usize,
 ) -> Result<Vec<Prepared>, NoMemory>
     requires machines { All (λ b. b.0 < length out.old.machines) parts.now }
     requires apart { AllPairs (λ one other. one.0 ≢ other.0) parts.now }
-    ensures can { IfOk result (λ ps. CanTell out.new scope v degree ps.items) }
+    ensures can { IfOk result (λ ps. CanTell out.new flight.scope flight.centre degree ps.items) }
     ensures told { IfOk result (λ ps. (q : ℕ) →
         is_to_be_told ps.items q ≡ (list_any (λ b. b.0 == q) parts.now && not (q == me.0))) }
     ensures same { HaveSameMessages out.old out.new }
@@ -99,7 +99,7 @@ pub fn prepare(
     for place in 0..parts.len() {
         let to = parts[place];
         if to.0 != me.0 {
-            prepared.push(prepare_one(alloc, out, scope, v, to, degree)?)?;
+            prepared.push(prepare_one(alloc, out, flight, to, degree)?)?;
         }
     }
     Ok(prepared)
@@ -108,20 +108,19 @@ pub fn prepare(
 fn prepare_one(
     alloc: Global,
     out: &mut Outboxes,
-    scope: ScopeId,
-    v: Vertex,
+    flight: Flight,
     to: MachineNo,
     degree: usize,
 ) -> Result<Prepared, NoMemory>
     requires { to.0 < length out.old.machines }
     ensures to { IfOk result (λ p. p.to ≡ to) }
-    ensures blank { IfOk result (λ p. IsBlank p.done scope v degree) }
+    ensures blank { IfOk result (λ p. IsBlank p.done flight.scope flight.centre degree) }
     ensures room { OnOk result (HasRoomToTell out.new to) }
     ensures same { HaveSameMessages out.old out.new }
     ensures others { (b : MachineNo) → b.0 ≢ to.0 →
         outbox_to out.new (Machine b) ≡ outbox_to out.old (Machine b) }
 {
     out.reserve(Peer::Machine(to))?;
-    let done = blank_done(alloc, scope, v, degree)?;
+    let done = blank_done(alloc, flight.scope, flight.centre, degree)?;
     Ok(Prepared { to, done })
 }

@@ -19,7 +19,7 @@ returns-in-Ok-clause-completed g c st setting here row program =
     let is : made.work ≡ c.args.work = done.work ∙ first.work in
     let outcome = made_of_work (g.P.Program.meaning c.args.program.now) c.args.work c.in-Ok.outcome made first.work first.value first.edges done.work done.number done.marks done.woken in
     c.commit.ensures.committed st setting here (subst (λ (w : Work). HasItsRow st m w) (sym is) row) (subst (λ (p : Update). IsMadeOfWork p made) (sym program) outcome)
-    ∙ ap (λ (w : Work). updated st m.numbers.local.me.0 w.scope w.vertex.0 (Go w.scope.home w.vertex c.args.ticket) (part_of m)) is
+    ∙ ap (λ (w : Work). updated st m.numbers.local.me.0 w.scope w.vertex.0 (Go w.scope.home w.vertex c.args.terms.ticket) (part_of m)) is
 
 pub returns-in-Ok-clause-marks : goal.returns-in-Ok-clause-marks
 returns-in-Ok-clause-marks g c = marks_kept c.args.core.now.numbers c.commit.new.core.numbers c.update.new.self _ c.commit.ensures.numbers

@@ -14,9 +14,9 @@ loop-place-preserved c =
       | then-to-me+in_ok-prepare_one+in_ok-push w ↦
           let e = w.in_ok-prepare_one.ensures in
           rw (w.out-is, w.prepared-is, w.in_ok-push.ensures.items)
-          (one_prepared c.args.out.now at.out w.prepare_one.new.out c.args.scope c.args.v c.args.degree c.args.me.0 bs at.place (record { 0 = 0 }) at.prepared.items w.in_ok-prepare_one.field-0
+          (one_prepared c.args.out.now at.out w.prepare_one.new.out c.args.flight.scope c.args.flight.centre c.args.degree c.args.me.0 bs at.place (record { 0 = 0 }) at.prepared.items w.in_ok-prepare_one.field-0
           c.loop-place-test.true c.requires.apart w.if-to-me.true at.invariant e.to e.blank (machine at.place c.loop-place-test.true) e.room e.same e.others)
       | else-to-me w ↦
           rw (w.out-is, w.prepared-is)
-          (passed_over c.args.out.now at.out c.args.scope c.args.v c.args.degree c.args.me.0 bs at.place (record { 0 = 0 }) at.prepared.items c.loop-place-test.true w.if-to-me.false at.invariant)
+          (passed_over c.args.out.now at.out c.args.flight.scope c.args.flight.centre c.args.degree c.args.me.0 bs at.place (record { 0 = 0 }) at.prepared.items c.loop-place-test.true w.if-to-me.false at.invariant)
     ]
