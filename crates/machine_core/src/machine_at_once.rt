@@ -5,6 +5,6 @@ mod finding;
 mod making;
 mod updating;
 
-pub use finding::Found;
+pub use finding::{Found, find};
 pub use making::make;
 pub use updating::{refusal, update_at_once};

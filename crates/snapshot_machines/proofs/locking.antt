@@ -3,6 +3,7 @@ pub mod ScopeLemmas
 pub mod WorkLemmas
 pub mod TurnLemmas
 pub mod AtOnceLemmas
+pub mod EagerLemmas
 pub mod MarkLemmas
 pub mod HearLemmas
 pub mod ReceiveLemmas

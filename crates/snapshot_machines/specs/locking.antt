@@ -1,3 +1,4 @@
 pub mod Reports
 pub mod Machines
 pub mod Asking
+pub mod Eager

@@ -2,6 +2,7 @@
 
 mod admitting;
 mod at_once;
+mod founds;
 mod machines;
 mod reading;
 mod snapshots;

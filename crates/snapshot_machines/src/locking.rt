@@ -1,6 +1,7 @@
 //! A machine that takes part in snapshots, as a cluster knows it: with what it counts and what it
 //! tells the coordinator.
 
+mod eager;
 mod hearing;
 mod machines;
 mod members;

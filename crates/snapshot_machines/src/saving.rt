@@ -1,5 +1,6 @@
 //! A machine with its program, which takes part in snapshots.
 
+mod finding;
 mod founds;
 mod machines;
 mod reading;

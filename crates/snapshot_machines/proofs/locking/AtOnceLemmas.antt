@@ -124,7 +124,7 @@ module _ {P : Type 0} (meaning : P → Update) (st : Setting) (a : ℕ) (m : Mac
         queue = sym (ap (λ (p : Part). p.queue) rest);
       }
 
-  at_once_here : (v : ℕ) → MayUpdateAtOnce st x.machine.core.numbers.local.me.0 v (part_of x.machine.core) 1 → MayUpdateAtOnce st a v m.part 1
+  pub at_once_here : (v : ℕ) → MayUpdateAtOnce st x.machine.core.numbers.local.me.0 v (part_of x.machine.core) 1 → MayUpdateAtOnce st a v m.part 1
   at_once_here v may = may_with st x.machine.core.numbers.local.me.0 a v (part_of x.machine.core) m.part is.number same_locks (admit_here meaning st a m x is v may.admit) may
 
   at_once_there : (v : ℕ) → MayUpdateAtOnce st a v m.part 1 → MayUpdateAtOnce st x.machine.core.numbers.local.me.0 v (part_of x.machine.core) 1

@@ -7,7 +7,6 @@ ghost use Rattle.snapshot_machines.specs.chromatic.Inner.Picking.{IsFoundInStep}
 
 use crate::chromatic::machines::ColorSnapMachine;
 use gl_base::{NoMemory, Refused, Vertex};
-use machine_core::color_parts::{Which, enlist_near};
 use machine_core::machine_at_once::Found;
 use update_api::Program;
 
@@ -34,17 +33,11 @@ impl<P: Program> ColorSnapMachine<P> {
             new ≡ record old { kept = new.kept; rows = new.rows; numbers = new.numbers } }
         ensures step { IsInSameStep self.old self.new }
     {
-        let _before = self.machine.core();
         let Some(found) = self.find_at_once() else {
             return Err(Refused::NotNow);
         };
-        match self.machine.update_found(found, ticket) {
-            Ok(()) => {
-                self.lines.remove(found.place);
-                let after = self.machine.core();
-                enlist_near(&mut self.lines, &after.numbers, found.vertex, Which::Tasks);
-                Ok(found.vertex)
-            }
+        match self.update_found(found, ticket) {
+            Ok(()) => Ok(found.vertex),
             Err(NoMemory) => Err(Refused::NoMemory),
         }
     }
@@ -61,7 +54,7 @@ impl<P: Program> ColorSnapMachine<P> {
     }
 
     /// The vertex that would be admitted next, where it may be updated at once.
-    fn find_at_once(&self) -> Option<Found>
+    pub(crate) fn find_at_once(&self) -> Option<Found>
         ensures found { IfSome result (λ f. IsFoundInStep self.now f) }
         ensures none { IfNone result (HasNoneByColour self.now) }
     {
