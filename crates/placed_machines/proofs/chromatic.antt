@@ -8,3 +8,4 @@ pub mod NewsLemmas
 pub mod ReadLemmas
 pub mod AnswerLemmas
 pub mod AtOnceLemmas
+pub mod EagerLemmas

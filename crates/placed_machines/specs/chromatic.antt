@@ -1,2 +1,3 @@
+pub mod Eager
 pub mod Machines
 pub mod Prompting

@@ -1,4 +1,5 @@
 //! Machines that take part in snapshots, of either engine.
+mod eager;
 mod machines;
 mod members;
 
