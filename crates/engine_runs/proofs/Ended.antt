@@ -32,13 +32,13 @@ module _ {P : Type 0} (meaning : P → Update) (g : DataGraph) (program : Update
   gathers = record { graph = runs.placed.graph; owners = runs.placed.owners; base = at.known.base; taken = at.known.was.taken }
 
   -- and they are its lists
-  pub trace_so : (failures : List FailureAt) → call.trace.failures ≡ failures → (lists : CallLists) → IsGathered call.trace.failures st o events c lists → HasTraceOf failures st o events c (gathered_lists lists)
-  trace_so failures same lists is = subst (λ (fs : List FailureAt). HasTraceOf fs st o events c (gathered_lists lists)) same (at.now.trace, is.are)
+  pub trace_so : (failures : List FailureAt) → call.trace.failures ≡ failures → (lists : CallLists) → IsGathered call.trace.failures st o events c call.lost.items lists → HasTraceOf failures st o events c (gathered_lists call.lost.items lists)
+  trace_so failures same lists is = subst (λ (fs : List FailureAt). HasTraceOf fs st o events c (gathered_lists call.lost.items lists)) same (at.now.trace, is.are)
 
-  module _ (failures : List FailureAt) (same : call.trace.failures ≡ failures) (running : call.trace.now.stopped ≡ false) (lists : CallLists) (is : IsGathered call.trace.failures st o events c lists)
-      (ended : ListsOfTrace st at.paused.failures o.base o.first events c (gathered_lists lists) → IsEndedRun (IsAnyMachineOf meaning) at.paused start (start ++ added) st o events c (gathered_lists lists)) where
+  module _ (failures : List FailureAt) (same : call.trace.failures ≡ failures) (running : call.trace.now.stopped ≡ false) (lists : CallLists) (is : IsGathered call.trace.failures st o events c call.lost.items lists)
+      (ended : ListsOfTrace st at.paused.failures o.base o.first events c (gathered_lists call.lost.items lists) → IsEndedRun (IsAnyMachineOf meaning) at.paused start (start ++ added) st o events c (gathered_lists call.lost.items lists)) where
     abbrev found : RunLists
-    found = gathered_lists lists
+    found = gathered_lists call.lost.items lists
 
     all : IsEndedRun (IsAnyMachineOf meaning) at.paused start (start ++ added) st o events c found
     all = ended (subst (λ (fs : List FailureAt). ListsOfTrace st fs o.base o.first events c found) (sym at.failures) is.are)
@@ -63,7 +63,7 @@ module _ {P : Type 0} (meaning : P → Update) (g : DataGraph) (program : Update
         subst (λ (s : Shared). RunEndMeaning call.saves_end s st.machines st.window o.first.left (length start) (stored_order start) (orders_behind (stored_order start) added) all.call.last.struck found how) shared_is
         (subst₂ (λ (ks : List Entry) (os : List (List Entry)). RunEndMeaning call.saves_end (shared_of st at.paused.failures) st.machines st.window o.first.left (length start) ks os all.call.last.struck found how) at.known.kept orders (ends_by how at.gives))
 
-    pub run_so : IsRunSo call.saves_end st failures o start added (record { order = lists.order; lost = lists.lost; done = lists.done; fired = lists.fired; snapshots = call.snapshots; numbers = lists.numbers; end = how })
+    pub run_so : IsRunSo call.saves_end st failures o start added (record { order = lists.order; lost = call.lost; done = lists.done; fired = lists.fired; snapshots = call.snapshots; numbers = lists.numbers; end = how })
     run_so = record {
       unanswered = all.call.last.struck;
       is = subst₂ (λ (s : Shared) (ks : List Entry). IsRunWithFailures s st.machines ks o.resumed all.call.last.struck found) shared_is at.known.kept all.is;

@@ -22,6 +22,7 @@ use Rattle.store.specs.snap_journal.Disks.{DiskPast, Rose}
 use Rattle.store.specs.declared.snap_journal.faults.JournalFault.{JournalFault}
 use Rattle.store.specs.declared.snap_journal.faults.JournalFault.TheVariants as fault
 use Rattle.store.specs.declared.store_format.faults.StoreFault.TheVariants.{BadByte}
+use Rattle.engine_runs.specs.declared.answers.runs.RunInput.{RunInput}
 use Rattle.engine_runs.specs.declared.answers.runs.StoredEnd.{StoredEnd}
 use Rattle.engine_runs.specs.declared.answers.runs.StoredEnd.TheVariants as end
 use Rattle.engine_runs.specs.declared.answers.runs.StoredRun.{StoredRun}
@@ -71,6 +72,15 @@ pub record IsRunBy (g : DataGraph) (cut : Cut) (program : Update) (plan : Stored
 -- what a run shares on this graph, with this owner of each vertex
 abbrev pub owned_shared : DataGraph → Update → (ℕ → ℕ) → List FailureAt → Shared
 owned_shared g program owner failures = record { graph = g; program = program; owner = owner; failures = failures }
+
+-- the same of what the run is made from
+abbrev pub input_shared : RunInput → Update → (ℕ → ℕ) → Shared
+input_shared input program owner = owned_shared input.graph.now program owner input.failures.now
+
+-- so of each owner of the vertices that is the placement of a run made from this, and by which a store with these snapshots is good
+abbrev pub FromGoodStore : RunInput → Update → Header → List (List ℕ) → ((ℕ → ℕ) → Type 0) → Type 0
+FromGoodStore input program header bodies Holds =
+    (owner : ℕ → ℕ) → IsPlacement input.graph.now input.cut.now input.plan.run.machines owner → IsGoodStore (input_shared input program owner) header bodies → Holds owner
 
 -- For each owner that is the placement and by which the store was good: whatever crashes left and leave is good, with the snapshots that were added.
 abbrev pub KeepsByOwner : {D : Type 0} → (D → DiskPast) → DataGraph → Update → Cut → ℕ → List FailureAt → JournalState D → JournalState D → Type 0

@@ -7,6 +7,7 @@ pub mod attempt_machines;
 mod calls;
 pub mod finish;
 mod pauses;
+pub mod placed;
 pub mod placement_is_unique;
 pub mod rollback;
 mod running;

@@ -9,6 +9,7 @@ ghost use Rattle.cluster_step.specs.declared.drive.pauses.Pause.TheVariants as p
 use crate::answers::StoredEnd;
 use crate::append::{AppendFault, append_due};
 use crate::calls::StoredCall;
+use crate::placed::PlacedProgram;
 use crate::rollback::go_back;
 use gl_outside::Disk;
 use graph_core::Graph;
@@ -49,15 +50,17 @@ pub(crate) fn go_back_from<D: Disk, P: Program>(
     ensures same { D.same journal.old.disk journal.new.disk }
     ensures later { D.faults journal.old.disk ≤ D.faults journal.new.disk }
 {
-    // The reader tells that the store has so many bytes.
     let length = journal.length();
+    let placed = PlacedProgram {
+        graph,
+        program,
+        places: &call.places,
+    };
     let back = go_back(
         alloc,
         &mut call.trace,
         journal,
-        graph,
-        program,
-        &call.places,
+        &placed,
         &mut call.restarts,
         &mut call.lost,
     );
@@ -94,7 +97,8 @@ pub(crate) fn save_due<D: Disk, P: Program>(
     requires well { journal.old.failed ≡ false }
     requires running { call.old.trace.now.stopped ≡ false }
     requires restarts { Begins call.old.restarts.stored.items call.old.restarts.front.items }
-    requires due { (k : ℕ) × PauseMeaning (IsAnyMachineOf P.meaning) call.old.trace (pause.Record k) }
+    requires due { (k : ℕ) ×
+        PauseMeaning (IsAnyMachineOf P.meaning) call.old.trace (pause.Record k) }
     ensures keeps { IsTrue D.observable →
         (start : List (List ℕ)) (first : DiskPast) (st : Setting) (o : CallOpening) →
         IsCallAt P.meaning D.past call.old journal.old start first st o →
@@ -119,9 +123,6 @@ pub(crate) fn save_due<D: Disk, P: Program>(
 {
     call.snapshots.reserve(1)?;
     let added = append_due(alloc, &mut call.trace, journal, &mut call.restarts);
-    // The reader tells how many snapshots the store has, and that whatever a crash now leaves has
-    // them.
-    let _stored = journal.count();
     let length = journal.length();
     match added {
         Ok(line) => {

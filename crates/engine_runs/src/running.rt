@@ -4,25 +4,23 @@ ghost use Rattle.gl_base.specs.declared.entries.Entry.{Entry};
 ghost use Rattle.gl_base.specs.declared.numbers.Vertex.{Vertex};
 ghost use Rattle.graph_core.specs.DataGraph.{size};
 ghost use Rattle.store.specs.snap_journal.Disks.{Rose};
+ghost use Rattle.store.specs.snap_journal.Journals.{KnowsStore};
 ghost use Rattle.store.specs.declared.snap_journal.faults.JournalFault.TheVariants as fault;
 ghost use Rattle.store.specs.declared.store_format.faults.StoreFault.{StoreFault};
 ghost use Rattle.store.specs.declared.store_format.faults.StoreFault.TheVariants.{BadByte};
 ghost use Rattle.engine_runs.specs.Calls.{ArePlacesOf, CallOpening, CanCallGoOn, EndsBy, Header, IsHeaderOf, IsRunAt, Setting, shared_of, snapshots_in};
 ghost use Rattle.engine_runs.specs.declared.answers.runs.StoredEnd.TheVariants as ending;
-ghost use Rattle.engine_runs.specs.Runs.{AreJobFailures, ArePlacedFor, BoundsSteps, CanBeCut, HasCallBegun, HasTraceOf, HasRoomForRun, IsEndAt, IsFinishedOrNoMemory, IsEntryOf, IsGoodStore, IsInRange, IsRunBy, IsRunSo, IsPlacement, IsStoredRun, RunErrorCause, BeginErrorCause, KeepsByOwner, KeepsGood, lists_of, owned_shared, refused_by, run_shared, stored_order};
+ghost use Rattle.engine_runs.specs.Runs.{FromGoodStore, AreJobFailures, ArePlacedFor, BoundsSteps, CanBeCut, HasCallBegun, HasTraceOf, HasRoomForRun, IsEndAt, IsFinishedOrNoMemory, IsEntryOf, IsGoodStore, IsInRange, IsRunBy, IsRunSo, IsPlacement, IsStoredRun, RunErrorCause, BeginErrorCause, KeepsByOwner, KeepsGood, input_shared, lists_of, refused_by, run_shared, stored_order};
 ghost use Rattle.update_api.specs.Updates.{Update};
 
-use crate::answers::{SnapLine, StoredEnd, StoredPlan, StoredRun};
+use crate::answers::{RunInput, SnapLine, StoredEnd, StoredRun};
 use crate::calls::StoredCall;
-use crate::finish::{CallLists, GatherFault, calls_end_so, gather_call};
-use crate::placement_is_unique::placements_are_one;
+use crate::finish::{CallLists, GatherFault, gather_call};
 use crate::start::{Started, start_call};
 use crate::steps::play_to_end;
-use gl_base::FailureAt;
+use gl_base::{Entry, FailureAt};
 use gl_outside::Disk;
-use graph_atoms::atom_gather::Cut;
 use graph_core::Graph;
-use placed_machines::any_machine::AnyMachine;
 use std::alloc::Global;
 use std::sync::Wait;
 use store::snap_journal::{Journal, JournalFault};
@@ -40,111 +38,101 @@ use update_api::Program;
 pub fn run_stored<R: Wait, D: Disk, P: Program>(
     rt: &R,
     alloc: Global,
-    graph: &Graph,
+    input: &RunInput<'_>,
     program: P,
-    cut: &Cut,
-    plan: StoredPlan,
-    failures: &[FailureAt],
     journal: &mut Journal<D>,
     resumed: bool,
 ) -> Result<StoredRun, JournalFault>
-    requires cut { CanBeCut graph.now cut.now }
-    requires plan { IsInRange plan.run }
-    requires few { plan.run.machines < 65535 }
-    requires failures { AreJobFailures plan.run.machines failures.now }
-    requires places { length failures.now ≤ 65536 }
-    requires graph { IsHeaderOf graph.now journal.old.header }
-    requires machines { journal.old.header.machines ≡ plan.run.machines }
+    requires cut { CanBeCut input.now.graph.now input.now.cut.now }
+    requires plan { IsInRange input.now.plan.run }
+    requires few { input.now.plan.run.machines < 65535 }
+    requires failures { AreJobFailures input.now.plan.run.machines input.now.failures.now }
+    requires places { length input.now.failures.now ≤ 65536 }
+    requires graph { IsHeaderOf input.now.graph.now journal.old.header }
+    requires machines { journal.old.header.machines ≡ input.now.plan.run.machines }
     requires fresh { resumed ≡ false → journal.old.count ≡ 0 }
     requires well { journal.old.failed ≡ false }
 
     // From a store that is good by the owners that the placement gives: what the run is, and what
     // crashes leave.
     ensures run { IsTrue D.observable →
-        IfOk result (λ run. (owner : ℕ → ℕ) →
-        IsPlacement graph.now cut.now plan.run.machines owner →
-        IsGoodStore (owned_shared graph.now (P.meaning program) owner failures.now)
-        journal.old.header (snapshots_in D.past journal.old) →
+        IfOk result (λ run. FromGoodStore input.now (P.meaning program)
+        journal.old.header (snapshots_in D.past journal.old) (λ owner.
         (snapshots : List (List Entry)) ×
-        IsStoredRun plan.saves_end (owned_shared graph.now (P.meaning program) owner failures.now)
-        plan.run.machines plan.window plan.run.budget journal.old.count
+        IsStoredRun input.now.plan.saves_end (input_shared input.now (P.meaning program) owner)
+        input.now.plan.run.machines input.now.plan.window
+        input.now.plan.run.budget journal.old.count
         (stored_order (snapshots_in D.past journal.old)) resumed snapshots run
-        × KeepsGood (owned_shared graph.now (P.meaning program) owner failures.now)
+        × KeepsGood (input_shared input.now (P.meaning program) owner)
         journal.old.header (snapshots_in D.past journal.old) snapshots (D.past journal.old.disk)
-        (D.past journal.new.disk)) }
+        (D.past journal.new.disk))) }
 
     // From such a store it is a run of machines that the plan asks for: of its kind of engine, with
     // its pipeline.
     ensures engine { IsTrue D.observable →
-        IfOk result (λ run. (owner : ℕ → ℕ) →
-        IsPlacement graph.now cut.now plan.run.machines owner →
-        IsGoodStore (owned_shared graph.now (P.meaning program) owner failures.now)
-        journal.old.header (snapshots_in D.past journal.old) →
-        IsRunBy graph.now cut.now (P.meaning program) plan failures.now (lists_of run)) }
+        IfOk result (λ run. FromGoodStore input.now (P.meaning program)
+        journal.old.header (snapshots_in D.past journal.old) (λ owner.
+        IsRunBy input.now.graph.now input.now.cut.now (P.meaning program) input.now.plan
+        input.now.failures.now (lists_of run))) }
 
     // From such a store, that is as long as one may grow or shorter, no run is refused for the
     // store or a record: memory ran out, or the disk failed before the run began.
-    ensures good { IsTrue D.observable → (owner : ℕ → ℕ) →
-        IsPlacement graph.now cut.now plan.run.machines owner →
-        IsGoodStore (owned_shared graph.now (P.meaning program) owner failures.now)
-        journal.old.header (snapshots_in D.past journal.old) → journal.old.length ≤ 2 ^ 30 →
-        (why : StoreFault) → IsErrOf result (fault.BadStore why) → ⊥ }
+    ensures good { IsTrue D.observable → FromGoodStore input.now (P.meaning program)
+        journal.old.header (snapshots_in D.past journal.old) (λ owner. journal.old.length ≤ 2 ^ 30 →
+        (why : StoreFault) → IsErrOf result (fault.BadStore why) → ⊥) }
 
     // And its budget is not spent, where each attempt has as many tickets as it may need; and the
     // store is not full, where it has room for the run.
     ensures enough { IsTrue D.observable →
-        IfOk result (λ run. (owner : ℕ → ℕ) →
-        IsPlacement graph.now cut.now plan.run.machines owner →
-        IsGoodStore (owned_shared graph.now (P.meaning program) owner failures.now)
-        journal.old.header (snapshots_in D.past journal.old) →
-        (bound : ℕ) → BoundsSteps graph.now (P.meaning program) bound →
-        (1 + length failures.now) * bound ≤ plan.run.budget → (left : Vertex) →
-        run.end ≡ ending.Spent left → ⊥) }
+        IfOk result (λ run. FromGoodStore input.now (P.meaning program)
+        journal.old.header (snapshots_in D.past journal.old) (λ owner.
+        (bound : ℕ) → BoundsSteps input.now.graph.now (P.meaning program) bound →
+        (1 + length input.now.failures.now) * bound ≤ input.now.plan.run.budget → (left : Vertex) →
+        run.end ≡ ending.Spent left → ⊥)) }
     ensures roomy { IsTrue D.observable →
-        IfOk result (λ run. (owner : ℕ → ℕ) →
-        IsPlacement graph.now cut.now plan.run.machines owner →
-        IsGoodStore (owned_shared graph.now (P.meaning program) owner failures.now)
-        journal.old.header (snapshots_in D.past journal.old) →
-        HasRoomForRun graph.now plan (length failures.now) journal.old.count journal.old.length →
-        (stored long : ℕ) → run.end ≡ ending.Full stored long → ⊥) }
+        IfOk result (λ run. FromGoodStore input.now (P.meaning program)
+        journal.old.header (snapshots_in D.past journal.old) (λ owner.
+        HasRoomForRun input.now.graph.now input.now.plan (length input.now.failures.now)
+        journal.old.count journal.old.length →
+        (stored long : ℕ) → run.end ≡ ending.Full stored long → ⊥)) }
 
     // So it finishes, or memory runs out, where the disk does not fail.
-    ensures complete { IsTrue D.observable → (owner : ℕ → ℕ) →
-        IsPlacement graph.now cut.now plan.run.machines owner →
-        IsGoodStore (owned_shared graph.now (P.meaning program) owner failures.now)
-        journal.old.header (snapshots_in D.past journal.old) →
-        (bound : ℕ) → BoundsSteps graph.now (P.meaning program) bound →
-        (1 + length failures.now) * bound ≤ plan.run.budget →
-        HasRoomForRun graph.now plan (length failures.now) journal.old.count journal.old.length →
+    ensures complete { IsTrue D.observable → FromGoodStore input.now (P.meaning program)
+        journal.old.header (snapshots_in D.past journal.old) (λ owner.
+        (bound : ℕ) → BoundsSteps input.now.graph.now (P.meaning program) bound →
+        (1 + length input.now.failures.now) * bound ≤ input.now.plan.run.budget →
+        HasRoomForRun input.now.graph.now input.now.plan (length input.now.failures.now)
+        journal.old.count journal.old.length →
         (Rose (D.faults journal.old.disk) (D.faults journal.new.disk) → ⊥) →
-        IsFinishedOrNoMemory result }
+        IsFinishedOrNoMemory result) }
 
     // The graph is placed for it, in the one way that there is.
     ensures placed { IfOk result (λ run. (owner : ℕ → ℕ) ×
-        IsPlacement graph.now cut.now plan.run.machines owner) }
+        IsPlacement input.now.graph.now input.now.cut.now input.now.plan.run.machines owner) }
 
     ensures by { IfOk result (λ run.
         EndsBy journal.new (D.faults journal.old.disk) (D.faults journal.new.disk) run.end) }
-    ensures numbers { IfOk result (λ run. length run.numbers.items ≡ size graph.now) }
-    ensures entries { IfOk result (λ run. All (IsEntryOf graph.now) run.order.items) }
+    ensures numbers { IfOk result (λ run. length run.numbers.items ≡ size input.now.graph.now) }
+    ensures entries { IfOk result (λ run. All (IsEntryOf input.now.graph.now) run.order.items) }
     ensures refused { IfErr result
         (RunErrorCause (IsTrue D.observable) (D.past journal.old.disk) (D.past journal.new.disk)
         (D.faults journal.old.disk) (D.faults journal.new.disk)
-        (KeepsByOwner D.past graph.now (P.meaning program) cut.now plan.run.machines failures.now
+        (KeepsByOwner D.past input.now.graph.now (P.meaning program) input.now.cut.now
+        input.now.plan.run.machines input.now.failures.now
         journal.old journal.new)) }
+    // What the journal knew of its store, and what it knows behind a run.
+    ensures knew { IsTrue D.observable → KnowsStore D.past journal.old }
+    ensures knows { IsTrue D.observable →
+        IfOk result (λ run. journal.new.failed ≡ false → KnowsStore D.past journal.new) }
     ensures header { journal.new.header ≡ journal.old.header }
     ensures same { D.same journal.old.disk journal.new.disk }
     ensures later { D.faults journal.old.disk ≤ D.faults journal.new.disk }
 {
-    placements_are_one();
-    // The reader tells how many snapshots and bytes the store has.
-    let _stored = journal.count();
-    let _length = journal.length();
-    let mut call = begin(alloc, graph, program, cut, plan, failures, journal, resumed)?;
-    match play_to_end(rt, alloc, graph, program, &mut call, journal) {
+    let mut call = begin(alloc, input, program, journal, resumed)?;
+    match play_to_end(rt, alloc, input.graph, program, &mut call, journal) {
         Ok(end) => {
             let long = journal.length();
-            gathered(alloc, graph, failures, call, end, long)
+            gathered(alloc, input.graph, input.failures, call, end, long)
         }
         Err(why) => {
             drop(call);
@@ -156,48 +144,50 @@ pub fn run_stored<R: Wait, D: Disk, P: Program>(
 /// The call as it starts.
 fn begin<D: Disk, P: Program>(
     alloc: Global,
-    graph: &Graph,
+    input: &RunInput<'_>,
     program: P,
-    cut: &Cut,
-    plan: StoredPlan,
-    failures: &[FailureAt],
     journal: &mut Journal<D>,
     resumed: bool,
 ) -> Result<StoredCall<P>, JournalFault>
-    requires cut { CanBeCut graph.now cut.now }
-    requires plan { IsInRange plan.run }
-    requires few { plan.run.machines < 65535 }
-    requires failures { AreJobFailures plan.run.machines failures.now }
-    requires graph { IsHeaderOf graph.now journal.old.header }
-    requires machines { journal.old.header.machines ≡ plan.run.machines }
+    requires cut { CanBeCut input.now.graph.now input.now.cut.now }
+    requires plan { IsInRange input.now.plan.run }
+    requires few { input.now.plan.run.machines < 65535 }
+    requires failures { AreJobFailures input.now.plan.run.machines input.now.failures.now }
+    requires graph { IsHeaderOf input.now.graph.now journal.old.header }
+    requires machines { journal.old.header.machines ≡ input.now.plan.run.machines }
     requires fresh { resumed ≡ false → journal.old.count ≡ 0 }
-    ensures can { IfOk result (λ call. CanCallGoOn graph.now call journal.new) }
+    ensures can { IfOk result (λ call. CanCallGoOn input.now.graph.now call journal.new) }
     ensures begun { IsTrue D.observable →
-        IfOk result (λ call. (st : Setting) → IsRunAt graph.now (P.meaning program) call.places st →
-        IsGoodStore (shared_of st failures.now) journal.old.header
+        IfOk result (λ call. (st : Setting) →
+        IsRunAt input.now.graph.now (P.meaning program) call.places st →
+        IsGoodStore (shared_of st input.now.failures.now) journal.old.header
         (snapshots_in D.past journal.old) →
-        HasCallBegun P.meaning D.past call journal.old journal.new resumed plan.run.budget st) }
+        HasCallBegun P.meaning D.past call journal.old journal.new resumed
+        input.now.plan.run.budget st) }
     ensures setting { IfOk result (λ call. (st : Setting) ×
-        IsRunAt graph.now (P.meaning program) call.places st ×
-        (shared_of st failures.now ≡ run_shared graph.now (P.meaning program)
-        call.places failures.now)) }
-    ensures places { IfOk result (λ call. ArePlacedFor graph.now cut.now plan call.places) }
-    ensures failures { IfOk result (λ call. call.trace.failures ≡ failures.now) }
-    ensures saves { IfOk result (λ call. call.saves_end ≡ plan.saves_end) }
+        IsRunAt input.now.graph.now (P.meaning program) call.places st ×
+        (shared_of st input.now.failures.now ≡ run_shared input.now.graph.now (P.meaning program)
+        call.places input.now.failures.now)) }
+    ensures places { IfOk result (λ call.
+        ArePlacedFor input.now.graph.now input.now.cut.now input.now.plan call.places) }
+    ensures failures { IfOk result (λ call. call.trace.failures ≡ input.now.failures.now) }
+    ensures saves { IfOk result (λ call. call.saves_end ≡ input.now.plan.saves_end) }
     ensures refused { IfErr result
-        (BeginErrorCause journal.old.failed (D.faults journal.old.disk) (D.faults journal.new.disk)) }
+        (BeginErrorCause journal.old.failed (D.faults journal.old.disk)
+        (D.faults journal.new.disk)) }
     ensures good { IsTrue D.observable → journal.old.length ≤ 2 ^ 30 → (why : StoreFault) →
         IsErrOf result (fault.BadStore why) → ⊥ }
+    ensures knew { IsTrue D.observable → journal.old.failed ≡ false →
+        KnowsStore D.past journal.old }
     ensures long { journal.new.length ≡ journal.old.length }
     ensures past { IsTrue D.observable → D.past journal.new.disk ≡ D.past journal.old.disk }
     ensures header { journal.new.header ≡ journal.old.header }
     ensures same { D.same journal.old.disk journal.new.disk }
     ensures later { D.faults journal.old.disk ≤ D.faults journal.new.disk }
 {
-    let _stored = journal.count();
     let length = journal.length();
-    match start_call(alloc, graph, program, cut, plan, failures, journal, resumed) {
-        Ok(started) => Ok(call_of(alloc, started, plan.saves_end)),
+    match start_call(alloc, input, program, journal, resumed) {
+        Ok(started) => Ok(call_of(alloc, started, input.plan.saves_end)),
         Err(why) => Err(refused_by(why, length)),
     }
 }
@@ -277,7 +267,6 @@ pub(crate) fn gathered<P: Program>(
         IsRunAt graph.now program call.places st →
         IsEndAt P.meaning call header start added st o end → ⊥))) }
 {
-    calls_end_so::<AnyMachine<P>>();
     let StoredCall {
         trace,
         places,
@@ -288,11 +277,11 @@ pub(crate) fn gathered<P: Program>(
         ..
     } = call;
     drop(restarts);
-    match gather_call(alloc, graph, &trace, &places, failures, order, lost) {
+    match gather_call(alloc, graph, &trace, &places, failures, order) {
         Ok(lists) => {
             drop(trace);
             drop(places);
-            Ok(run_of(lists, snapshots, end))
+            Ok(run_of(lists, lost, snapshots, end))
         }
         Err(GatherFault::OtherGraph) => {
             drop(trace);
@@ -307,11 +296,11 @@ pub(crate) fn gathered<P: Program>(
     }
 }
 
-/// The run with these lists.
-fn run_of(lists: CallLists, snapshots: Vec<SnapLine>, end: StoredEnd) -> StoredRun
+/// The run with these lists, and these updates that failures took away.
+fn run_of(lists: CallLists, lost: Vec<Entry>, snapshots: Vec<SnapLine>, end: StoredEnd) -> StoredRun
     ensures { result ≡ record {
       order = lists.order;
-      lost = lists.lost;
+      lost = lost;
       done = lists.done;
       fired = lists.fired;
       snapshots = snapshots;
@@ -321,7 +310,7 @@ fn run_of(lists: CallLists, snapshots: Vec<SnapLine>, end: StoredEnd) -> StoredR
 {
     StoredRun {
         order: lists.order,
-        lost: lists.lost,
+        lost,
         done: lists.done,
         fired: lists.fired,
         snapshots,

@@ -7,7 +7,7 @@ use Rattle.graph_atoms.specs.atom_gather.Cuts.{IsCutBy, atoms_of}
 use Rattle.graph_atoms.specs.declared.atom_gather.cuts.Cut.{Cut}
 use Rattle.graph_atoms.specs.declared.atom_gather.cuts.Cut.TheVariants.{Grown, Told}
 use Rattle.graph_atoms.specs.atom_place.Placing.{IsPlacing}
-use Rattle.graph_core.specs.DataGraph.{DataGraph}
+use Rattle.graph_core.specs.DataGraph.{DataGraph, size}
 use Rattle.placement.specs.plans.Plays.{IsCutAndPlaced, IsPlacement, atom_weights, machine_numbers}
 use Rattle.engine_runs.proofs.placement_is_unique.GrowthPlaces.{place_in_growth}
 use Rattle.engine_runs.proofs.placement_is_unique.Placings.{placings_are_one}
@@ -42,3 +42,7 @@ module _ (g : DataGraph) (cut : Cut) (machines : ℕ) (owner other : ℕ → ℕ
         let one : machines ≡ 1 = omega arith in
         placement.one one v ∙ sym (too.one one v)
   ]
+
+-- so do they at each vertex of the graph
+pub placed_once : (g : DataGraph) (cut : Cut) (machines : ℕ) → 1 ≤ machines → (owner other : ℕ → ℕ) → IsPlacement g cut machines owner → IsPlacement g cut machines other → (v : ℕ) → v < size g → owner v ≡ other v
+placed_once g cut machines some owner other placement too v low = owners_agree g cut machines owner other some placement too v

@@ -76,6 +76,11 @@ abbrev pub KnowsJournal : {D M : Type 0} → (Setting → ℕ → Machine → M 
 KnowsJournal represents past v journal start lost restarts order st o =
     IsKnownTrace represents v journal.header start (snapshots_in past journal) lost restarts.stored.items restarts.front.items order st o
 
+-- so in each setting and from each opening by which that is known
+abbrev pub FromKnownJournal : {D M : Type 0} → (Setting → ℕ → Machine → M → Type 0) → (D → DiskPast) → TraceView M → JournalState D → Restarts → (Setting → CallOpening → Type 0) → Type 0
+FromKnownJournal represents past v journal restarts Holds =
+    (start : List (List ℕ)) (lost order : List Entry) (st : Setting) (o : CallOpening) → KnowsJournal represents past v journal start lost restarts order st o → Holds st o
+
 -- the journal has one snapshot more
 abbrev pub HasOneMore : {D : Type 0} → (D → DiskPast) → JournalState D → JournalState D → Type 0
 HasOneMore past old new = (body : List ℕ) × (snapshots_in past new ≡ snapshots_in past old ++ body ∷ [])

@@ -16,9 +16,9 @@ use Rattle.graph_core.specs.DataGraph.{DataGraph, size}
 use Rattle.placed_machines.specs.declared.placing.Places.{Places}
 use Rattle.seq_run.specs.Orders.{replay}
 
--- the lists of the call, as a run has them
-abbrev pub gathered_lists : CallLists → RunLists
-gathered_lists lists = record { order = lists.order.items; lost = lists.lost.items; done = lists.done.items; fired = lists.fired.items }
+-- the lists of the call, as a run has them, with the updates that failures took away
+abbrev pub gathered_lists : List Entry → CallLists → RunLists
+gathered_lists lost lists = record { order = lists.order.items; lost = lost; done = lists.done.items; fired = lists.fired.items }
 
 -- The course is one on this graph, placed so; its newest attempt began with this order, and its recoveries took these updates away.
 pub record GathersFrom (g : DataGraph) (places : Places) (front lost : List Entry) (st : Setting) (o : CallOpening) (events : List Event) (c : Cluster) : Type 0 where
@@ -28,8 +28,8 @@ pub record GathersFrom (g : DataGraph) (places : Places) (front lost : List Entr
   pub taken : AreLostIn (first_setting st o) (first_cluster st o) events lost
 
 -- The lists are those of the course, and the numbers are the replay of the order.
-pub record IsGathered (failures : List FailureAt) (st : Setting) (o : CallOpening) (events : List Event) (c : Cluster) (lists : CallLists) : Type 0 where
-  pub are : ListsOfTrace st failures o.base o.first events c (gathered_lists lists)
+pub record IsGathered (failures : List FailureAt) (st : Setting) (o : CallOpening) (events : List Event) (c : Cluster) (lost : List Entry) (lists : CallLists) : Type 0 where
+  pub are : ListsOfTrace st failures o.base o.first events c (gathered_lists lost lists)
   pub numbers : AreNumbers (size st.graph) (replay st.graph st.program lists.order.items).vertex lists.numbers.items
 
 -- a vertex of the graph is a task of the machine that owns it

@@ -1,5 +1,7 @@
 //! Runs of a program with a store.
-use gl_base::{EngineKind, Entry, Vertex};
+use gl_base::{EngineKind, Entry, FailureAt, Vertex};
+use graph_atoms::atom_gather::Cut;
+use graph_core::Graph;
 use placement::plans::RunPlan;
 
 /// A snapshot that was acknowledged: its number, how many entries its order has, and what the
@@ -36,6 +38,16 @@ pub struct StoredPlan {
     pub window: u32,
     pub engine: EngineKind,
     pub saves_end: bool,
+}
+
+/// What a run with a store is made from: the graph, how it is cut, the failures of machines, and
+/// how the program is run.
+#[derive(Clone, Copy)]
+pub struct RunInput<'a> {
+    pub graph: &'a Graph,
+    pub cut: &'a Cut,
+    pub failures: &'a [FailureAt],
+    pub plan: StoredPlan,
 }
 
 /// A run with a store: the order to which it led, the updates that failures took away, how many

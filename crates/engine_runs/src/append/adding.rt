@@ -1,7 +1,7 @@
 //! The snapshot that is due is added to a store, and acknowledged.
 ghost use Rattle.std.specs.Prelude.{Err, List, ◌≡◌, ◌+◌, ◌<◌, ◌^◌, ◌≤◌, ℕ, false, IfErr, IfOk, IsErrOf, IsTrue, OnErr, OnOk};
 ghost use Rattle.gl_base.specs.declared.entries.Entry.{Entry};
-ghost use Rattle.engine_runs.specs.append.Appends.{Begins, CallOpening, HasOneMore, IsDueWith, IsGoodImage, IsNewestLine, AppendDueErrorCause, KnowsJournal, LeavesOnly, NeedsMore, Setting, snapshots_in};
+ghost use Rattle.engine_runs.specs.append.Appends.{Begins, CallOpening, FromKnownJournal, HasOneMore, IsDueWith, IsGoodImage, IsNewestLine, AppendDueErrorCause, KnowsJournal, LeavesOnly, NeedsMore, Setting, snapshots_in};
 ghost use Rattle.engine_runs.specs.append.Inner.Storing.{no_record};
 ghost use Rattle.cluster_step.specs.trace.Traces.{IsSameAttempt};
 ghost use Rattle.cluster_step.specs.trace.Events.{CanHappenInCall, IsEventDisabled, HappensInCall, StaysThere};
@@ -56,32 +56,28 @@ pub(crate) fn append_due<D: Disk, M: SavingMachine>(
         KnowsJournal M.represents D.past trace.new journal.new start lost restarts.new order st o) }
     ensures line { IsTrue D.observable →
         IfOk result (λ line.
-        (start : List (List ℕ)) (lost order : List Entry) (st : Setting) (o : CallOpening) →
-        KnowsJournal M.represents D.past trace.old journal.old start lost restarts.old order st o →
-        IsNewestLine st trace.old.failures (snapshots_in D.past journal.new) line) }
+        FromKnownJournal M.represents D.past trace.old journal.old restarts.old (λ st o.
+        IsNewestLine st trace.old.failures (snapshots_in D.past journal.new) line)) }
 
     // Whatever a crash leaves at any moment of the call is a good store, with the snapshot or
     // without it.
     ensures any_moment { IsTrue D.observable →
-        (start : List (List ℕ)) (lost order : List Entry) (st : Setting) (o : CallOpening) →
-        KnowsJournal M.represents D.past trace.old journal.old start lost restarts.old order st o →
+        FromKnownJournal M.represents D.past trace.old journal.old restarts.old (λ st o.
         LeavesOnly (D.past journal.old.disk) (D.past journal.new.disk)
         (IsGoodImage (shared_of st trace.old.failures) journal.old.header
-        (snapshots_in D.past journal.old)) }
+        (snapshots_in D.past journal.old))) }
 
     // `Full` comes only where more of the store was needed.
     ensures needed { IsTrue D.observable →
-        (start : List (List ℕ)) (lost order : List Entry) (st : Setting) (o : CallOpening) →
-        KnowsJournal M.represents D.past trace.old journal.old start lost restarts.old order st o →
+        FromKnownJournal M.represents D.past trace.old journal.old restarts.old (λ st o.
         (k : ℕ) → IsDueOf trace.old.now.coordinator (Due.Record k) → (stored long : ℕ) →
-        IsErrOf result (AppendFault.Full stored long) → NeedsMore M.represents trace.old st o }
+        IsErrOf result (AppendFault.Full stored long) → NeedsMore M.represents trace.old st o) }
 
     // A record that is due is in the form of the store, where the call draws fewer tickets than
     // each snapshot may have.
     ensures form { IsTrue D.observable →
-        (start : List (List ℕ)) (lost order : List Entry) (st : Setting) (o : CallOpening) →
-        KnowsJournal M.represents D.past trace.old journal.old start lost restarts.old order st o →
-        o.first.left < 33554432 → IsErrOf result AppendFault.NotInForm → ⊥ }
+        FromKnownJournal M.represents D.past trace.old journal.old restarts.old (λ st o.
+        o.first.left < 33554432 → IsErrOf result AppendFault.NotInForm → ⊥) }
 
     ensures refused { IfErr result
         (AppendDueErrorCause M.represents trace.old restarts.old journal.old journal.new

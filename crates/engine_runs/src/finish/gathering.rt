@@ -1,5 +1,6 @@
 //! The lists of a call.
 ghost use Rattle.std.specs.Prelude.{◌≡◌, ◌≤◌, ◌<◌, All, List, ℕ, false, length, slice_index, slice_index_or, true, IfOk, IsErrOf};
+ghost use Rattle.gl_base.specs.declared.entries.Entry.{Entry};
 ghost use Rattle.engine_runs.specs.finish.Gathered.{ArePlacesOf, CallOpening, Cluster, Event, GathersFrom, IsTraceNow, IsAnyMachineOf, IsEntryOf, IsGathered, InEachTrace, Setting, placed_owner, reached_places};
 ghost use Rattle.cluster_laws.specs.cluster_model.Machines.{completed};
 ghost use Rattle.graph_core.specs.DataGraph.{size};
@@ -15,13 +16,11 @@ use placed_machines::any_machine::AnyMachine;
 use std::alloc::Global;
 use update_api::Program;
 
-/// The lists of a call: the order to which it led, the updates that failures took away, how many
-/// updates each machine made, which of the failures fired by their places, and the numbers of the
-/// vertices.
+/// The lists of a call: the order to which it led, how many updates each machine made, which of the
+/// failures fired by their places, and the numbers of the vertices.
 #[derive(Drop)]
 pub(crate) struct CallLists {
     pub order: Vec<Entry>,
-    pub lost: Vec<Entry>,
     pub done: Vec<u64>,
     pub fired: Vec<u16>,
     pub numbers: Vec<u64>,
@@ -48,8 +47,8 @@ impl From<NoMemory> for GatherFault {
 }
 
 /// Gathers the lists of a call from its machines, where `front` is the order with which the newest
-/// attempt began, and `lost` what failures took away. `OtherGraph` comes only where a store of
-/// another graph was opened, whose disk doesn't tell what it holds.
+/// attempt began. `OtherGraph` comes only where a store of another graph was opened, whose disk
+/// doesn't tell what it holds.
 pub(crate) fn gather_call<P: Program>(
     alloc: Global,
     graph: &Graph,
@@ -57,44 +56,38 @@ pub(crate) fn gather_call<P: Program>(
     places: &Places,
     failures: &[FailureAt],
     front: Vec<Entry>,
-    lost: Vec<Entry>,
 ) -> Result<CallLists, GatherFault>
     requires places { ArePlacesOf graph.now (length trace.now.now.machines.items) places.now }
     requires failures { trace.now.failures ≡ failures.now }
     requires few { length failures.now ≤ 65536 }
 
-    ensures gathered { IfOk result (λ lists.
+    ensures gathered { IfOk result (λ lists. (lost : List Entry)
         (st : Setting) (o : CallOpening) (events : List Event) (c : Cluster) →
         IsTraceNow (IsAnyMachineOf P.meaning) trace.now st o events c →
-        GathersFrom graph.now places.now front.items lost.items st o events c →
-        IsGathered trace.now.failures st o events c lists) }
-    ensures other { IsErrOf result GatherFault.OtherGraph →
+        GathersFrom graph.now places.now front.items lost st o events c →
+        IsGathered trace.now.failures st o events c lost lists) }
+    ensures other { IsErrOf result GatherFault.OtherGraph → (lost : List Entry)
         (st : Setting) (o : CallOpening) (events : List Event) (c : Cluster) →
         IsTraceNow (IsAnyMachineOf P.meaning) trace.now st o events c →
-        GathersFrom graph.now places.now front.items lost.items st o events c → ⊥ }
+        GathersFrom graph.now places.now front.items lost st o events c → ⊥ }
 
     // Told or not.
     ensures entries { IfOk result (λ lists. All (IsEntryOf graph.now) lists.order.items) }
     ensures numbers { IfOk result (λ lists. length lists.numbers.items ≡ size graph.now) }
-    ensures lost { IfOk result (λ lists. lists.lost ≡ lost) }
 {
     let Ok(order) = order_behind(alloc, trace, front) else {
-        drop(lost);
         return Err(GatherFault::NoMemory);
     };
     if !are_of_graph(graph, &order) {
         drop(order);
-        drop(lost);
         return Err(GatherFault::OtherGraph);
     }
     let Ok(counts) = counts_of(alloc, graph, trace, places, failures) else {
         drop(order);
-        drop(lost);
         return Err(GatherFault::NoMemory);
     };
     Ok(CallLists {
         order,
-        lost,
         done: counts.0,
         fired: counts.1,
         numbers: counts.2,

@@ -7,13 +7,12 @@ ghost use Rattle.gl_base.specs.declared.entries.Entry.{Entry};
 ghost use Rattle.recovery.specs.Recovered.{IsHeaderOf};
 ghost use Rattle.store.specs.snap_journal.Journals.{snapshots_in};
 
+use crate::placed::PlacedProgram;
 use crate::rollback::failing::fail_reached;
 use crate::rollback::next_attempts::next_attempt;
 use cluster_step::trace::Trace;
 use gl_base::{Entry, NoMemory};
 use gl_outside::Disk;
-use graph_core::Graph;
-use placed_machines::Places;
 use placed_machines::any_machine::AnyMachine;
 use recovery::restarts::Restarts;
 use std::alloc::Global;
@@ -32,21 +31,20 @@ pub fn go_back<D: Disk, P: Program>(
     alloc: Global,
     trace: &mut Trace<AnyMachine<P>>,
     journal: &mut Journal<D>,
-    graph: &Graph,
-    program: P,
-    places: &Places,
+    placed: &PlacedProgram<'_, P>,
     restarts: &mut Restarts,
     lost: &mut Vec<Entry>,
 ) -> Result<Vec<Entry>, JournalFault>
-    requires places { ArePlacesOf graph.now (length trace.old.now.machines.items) places.now }
-    requires header { IsHeaderOf graph.now journal.old.header }
+    requires places { ArePlacesOf placed.now.graph.now
+        (length trace.old.now.machines.items) placed.now.places.now }
+    requires header { IsHeaderOf placed.now.graph.now journal.old.header }
     requires first { Begins restarts.old.stored.items restarts.old.front.items }
 
     // Of a disk that tells what it holds: where the store has kept up with the run from an opening,
     // in which a machine has reached the count of a failure, it has with the run as it goes on.
     ensures back { IsTrue D.observable → trace.old.now.stopped ≡ false →
         (start : List (List ℕ)) (order : List Entry) (st : Setting) (o : CallOpening) →
-        IsRunAt graph.now (P.meaning program) places.now st →
+        IsRunAt placed.now.graph.now (P.meaning placed.now.program) placed.now.places.now st →
         (known : IsKnownTrace (IsAnyMachineOf P.meaning) trace.old journal.old.header start
         (snapshots_in D.past journal.old) lost.old.items restarts.old.stored.items
         restarts.old.front.items order st o) →
@@ -89,10 +87,13 @@ pub fn go_back<D: Disk, P: Program>(
     ensures later { D.faults journal.old.disk ≤ D.faults journal.new.disk }
 {
     fail_reached(trace)?;
-    let next = next_attempt(
-        alloc, trace, journal, graph, program, places, restarts, lost,
-    )?;
-    if let Err(NoMemory) = trace.recover(alloc, next.machines, places.run.engine, next.store) {
+    let next = next_attempt(alloc, trace, journal, placed, restarts, lost)?;
+    if let Err(NoMemory) = trace.recover(
+        alloc,
+        next.machines,
+        placed.places.run.engine,
+        next.store,
+    ) {
         drop(next.order);
         drop(next.front);
         drop(next.lost);

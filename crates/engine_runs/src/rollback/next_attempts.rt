@@ -14,6 +14,7 @@ ghost use Rattle.recovery.specs.Recovered.{IsHeaderOf};
 ghost use Rattle.store.specs.snap_journal.Journals.{snapshots_in};
 ghost use Rattle.store.specs.snap_journal.Last.{LastErrorCause};
 
+use crate::placed::PlacedProgram;
 use crate::rollback::losing::taken_away;
 use crate::rollback::reading::{failures_now, serials};
 use crate::rollback::rooms::store_behind;
@@ -40,22 +41,30 @@ pub(crate) struct NextAttempt<P: Program> {
     pub(crate) lost: Vec<Entry>,
 }
 
+/// What all go back to: a base, the restarts behind the stored ones with which its order ends, and
+/// what the coordinator is told of the store.
+#[derive(Drop)]
+pub(crate) struct ReturnPoint {
+    pub(crate) base: Base,
+    pub(crate) missing: Vec<Entry>,
+    pub(crate) store: Store,
+}
+
 /// The next attempt, from what the store has.
 pub(crate) fn next_attempt<D: Disk, P: Program>(
     alloc: Global,
     trace: &Trace<AnyMachine<P>>,
     journal: &mut Journal<D>,
-    graph: &Graph,
-    program: P,
-    places: &Places,
+    placed: &PlacedProgram<'_, P>,
     restarts: &Restarts,
     lost: &[Entry],
 ) -> Result<NextAttempt<P>, JournalFault>
-    requires places { ArePlacesOf graph.now (length trace.now.now.machines.items) places.now }
-    requires header { IsHeaderOf graph.now journal.old.header }
+    requires places { ArePlacesOf placed.now.graph.now
+        (length trace.now.now.machines.items) placed.now.places.now }
+    requires header { IsHeaderOf placed.now.graph.now journal.old.header }
     requires first { Begins restarts.now.stored.items restarts.now.front.items }
     ensures start { IfOk result (λ next. (st : Setting) × (base : BaseView) × (before : Cluster) ×
-        StartsSaving (IsAnyMachineOf P.meaning) next.machines.items places.now.run.engine
+        StartsSaving (IsAnyMachineOf P.meaning) next.machines.items placed.now.places.now.run.engine
         (store_view next.store) trace.now.now.next trace.now.now.left st base before) }
     ensures many { IfOk result (λ next.
         length next.machines.items ≡ length trace.now.now.machines.items) }
@@ -65,12 +74,12 @@ pub(crate) fn next_attempt<D: Disk, P: Program>(
     ensures lost { IfOk result (λ next. Begins lost.now next.lost.items) }
     ensures back { IsTrue D.observable →
         (start : List (List ℕ)) (order : List Entry) (st : Setting) (o : CallOpening) →
-        IsRunAt graph.now (P.meaning program) places.now st →
+        IsRunAt placed.now.graph.now (P.meaning placed.now.program) placed.now.places.now st →
         (known : IsKnownTrace (IsAnyMachineOf P.meaning) trace.now journal.old.header start
         (snapshots_in D.past journal.old) lost.now restarts.now.stored.items
         restarts.now.front.items order st o) → HasFailures trace.now st known.was.cluster →
         IfOk result (λ next.
-        RestartsFrom P.meaning trace.now next.machines.items places.now.run.engine
+        RestartsFrom P.meaning trace.now next.machines.items placed.now.places.now.run.engine
         (store_view next.store) next.order.items lost.now next.lost.items restarts.now.front.items
         next.front.items st o known.was.events known.was.cluster) }
     ensures refused { IfErr result
@@ -97,14 +106,14 @@ pub(crate) fn next_attempt<D: Disk, P: Program>(
         failures,
         trace.next(),
     )?;
-    let base = match base_with(alloc, journal, graph, &program, &missing) {
+    let base = match base_with(alloc, journal, placed.graph, &placed.program, &missing) {
         Ok(base) => base,
         Err(why) => {
             drop(missing);
             return Err(why);
         }
     };
-    let store = match store_behind(trace, graph, base.number, failures) {
+    let store = match store_behind(trace, placed.graph, base.number, failures) {
         Ok(store) => store,
         Err(full) => {
             drop(base);
@@ -112,13 +121,14 @@ pub(crate) fn next_attempt<D: Disk, P: Program>(
             return Err(full);
         }
     };
-    let Ok(next) = attempt_from(
-        alloc, trace, graph, program, places, restarts, lost, base, &missing, store,
-    ) else {
-        drop(missing);
+    let back = ReturnPoint {
+        base,
+        missing,
+        store,
+    };
+    let Ok(next) = attempt_from(alloc, trace, placed, restarts, lost, back) else {
         return Err(JournalFault::NoMemory);
     };
-    drop(missing);
     Ok(next)
 }
 
@@ -156,54 +166,69 @@ fn base_with<D: Disk, P: Program>(
     Ok(base)
 }
 
-/// The next attempt from this base, with this store.
+/// The next attempt, from what all go back to.
 pub(crate) fn attempt_from<P: Program>(
     alloc: Global,
     trace: &Trace<AnyMachine<P>>,
-    graph: &Graph,
-    program: P,
-    places: &Places,
+    placed: &PlacedProgram<'_, P>,
     restarts: &Restarts,
     lost: &[Entry],
-    base: Base,
-    missing: &[Entry],
-    store: Store,
+    back: ReturnPoint,
 ) -> Result<NextAttempt<P>, NoMemory>
-    requires places { ArePlacesOf graph.now (length trace.now.now.machines.items) places.now }
-    requires base { IsBaseFor graph.now base }
-    requires graph { IsDataGraph graph.now }
+    requires places { ArePlacesOf placed.now.graph.now
+        (length trace.now.now.machines.items) placed.now.places.now }
+    requires base { IsBaseFor placed.now.graph.now back.base }
+    requires graph { IsDataGraph placed.now.graph.now }
     ensures lost { IfOk result (λ next. (gone : List Entry) × (next.lost.items ≡ lost.now ++ gone) ×
         InEachTrace (IsAnyMachineOf P.meaning) trace.now (λ st o events c. (to : BaseView) →
-        to.order ≡ base.order.items →
+        to.order ≡ back.base.order.items →
         GoesBackTo (newest_setting st o events) c to →
         TakesAway (newest_setting st o events) c to gone)) }
     ensures front { IfOk result (λ next.
-        next.front.items ≡ restarts.now.stored.items ++ missing.now) }
-    ensures order { IfOk result (λ next. next.order.items ≡ base.order.items) }
-    ensures store { IfOk result (λ next. next.store ≡ store) }
+        next.front.items ≡ restarts.now.stored.items ++ back.missing.items) }
+    ensures order { IfOk result (λ next. next.order.items ≡ back.base.order.items) }
+    ensures store { IfOk result (λ next. next.store ≡ back.store) }
     ensures many { IfOk result (λ next.
         length next.machines.items ≡ length trace.now.now.machines.items) }
     ensures stand { IfOk result (λ next.
         InEachTrace (IsAnyMachineOf P.meaning) trace.now (λ st o events c. (to : BaseView) →
-        IsRunAt graph.now (P.meaning program) places.now (newest_setting st o events) →
-        IsBaseOf (newest_setting st o events) base to →
+        IsRunAt placed.now.graph.now (P.meaning placed.now.program) placed.now.places.now
+        (newest_setting st o events) →
+        IsBaseOf (newest_setting st o events) back.base to →
         AreAnyMachinesOf P.meaning (newest_setting st o events) to c next.machines.items)) }
-    ensures start { IfOk result (λ next. (store : StoreView) → store.vertices ≡ size graph.now →
-        store.edges ≡ length graph.now.edges → store.newest ≡ base.number →
+    ensures start { IfOk result (λ next. (store : StoreView) →
+        store.vertices ≡ size placed.now.graph.now →
+        store.edges ≡ length placed.now.graph.now.edges → store.newest ≡ back.base.number →
         (st : Setting) × (to : BaseView) × (before : Cluster) ×
-        StartsSaving (IsAnyMachineOf P.meaning) next.machines.items places.now.run.engine store
+        StartsSaving (IsAnyMachineOf P.meaning) next.machines.items
+        placed.now.places.now.run.engine store
         trace.now.now.next trace.now.now.left st to before) }
 {
+    let ReturnPoint {
+        base,
+        missing,
+        store,
+    } = back;
     let Ok(lost) = lost_behind(alloc, trace, lost, &base.order) else {
+        drop(missing);
         drop(base);
         return Err(NoMemory);
     };
-    let Ok(front) = list_behind(alloc, &restarts.stored, missing) else {
+    let Ok(front) = list_behind(alloc, &restarts.stored, &missing) else {
+        drop(missing);
         drop(lost);
         drop(base);
         return Err(NoMemory);
     };
-    let Ok(machines) = machines_from(alloc, trace, graph, program, &base, places) else {
+    drop(missing);
+    let Ok(machines) = machines_from(
+        alloc,
+        trace,
+        placed.graph,
+        placed.program,
+        &base,
+        placed.places,
+    ) else {
         drop(front);
         drop(lost);
         drop(base);
@@ -227,7 +252,8 @@ fn lost_behind<M: SavingMachine>(
     order: &[Entry],
 ) -> Result<Vec<Entry>, NoMemory>
     ensures { IfOk result (λ all. (gone : List Entry) × (all.items ≡ lost.now ++ gone) ×
-        InEachTrace M.represents trace.now (λ st o events c. (to : BaseView) → to.order ≡ order.now →
+        InEachTrace M.represents trace.now (λ st o events c. (to : BaseView) →
+        to.order ≡ order.now →
         GoesBackTo (newest_setting st o events) c to →
         TakesAway (newest_setting st o events) c to gone)) }
 {

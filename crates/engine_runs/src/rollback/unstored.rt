@@ -9,8 +9,9 @@ ghost use Rattle.graph_core.specs.DataGraph.{IsDataGraph, size};
 ghost use Rattle.recovery.specs.Orders.{Shared};
 ghost use Rattle.recovery.specs.Recovered.{IsHeaderOf};
 
+use crate::placed::PlacedProgram;
 use crate::rollback::failing::fail_reached;
-use crate::rollback::next_attempts::{NextAttempt, attempt_from};
+use crate::rollback::next_attempts::{NextAttempt, ReturnPoint, attempt_from};
 use crate::rollback::reading::failures_now;
 use cluster_step::trace::{SavingMachine, Store, Trace};
 use gl_base::{Base, Entry, NoMemory};
@@ -121,13 +122,19 @@ fn attempt_at_start<P: Program>(
         return Err(NoMemory);
     };
     let store = no_store(trace, graph, failures);
-    let Ok(next) = attempt_from(
-        alloc, trace, graph, program, places, restarts, lost, base, &missing, store,
-    ) else {
-        drop(missing);
+    let placed = PlacedProgram {
+        graph,
+        program,
+        places,
+    };
+    let back = ReturnPoint {
+        base,
+        missing,
+        store,
+    };
+    let Ok(next) = attempt_from(alloc, trace, &placed, restarts, lost, back) else {
         return Err(NoMemory);
     };
-    drop(missing);
     Ok(next)
 }
 

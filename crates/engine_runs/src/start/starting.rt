@@ -2,15 +2,14 @@
 ghost use Rattle.std.specs.Prelude.{◌≡◌, ◌<◌, ◌≤◌, false, length, IfErr, IfOk, IsTrue};
 ghost use Rattle.engine_runs.specs.start.Starting.{AreJobFailures, ArePlacedFor, Begins, CanBeCut, HasStarted, IsGoodStore, IsHeaderOf, IsInRange, IsRunAt, StartErrorCause, Setting, opening_from, restart_room, run_shared, shared_of, snapshots_in};
 
-use crate::answers::StoredPlan;
+use crate::answers::RunInput;
+use crate::placed::PlacedProgram;
 use crate::start::openings::{Opening, opening_of};
 use crate::start::placing::places_of;
 use crate::start::traces::trace_of;
 use cluster_step::trace::Trace;
-use gl_base::{Entry, FailureAt};
+use gl_base::Entry;
 use gl_outside::Disk;
-use graph_atoms::atom_gather::Cut;
-use graph_core::Graph;
 use placed_machines::Places;
 use placed_machines::any_machine::AnyMachine;
 use recovery::recover;
@@ -37,41 +36,39 @@ pub struct Started<P: Program> {
 /// far more than a journal adds up to. After `DiskFault` open the store again.
 pub fn start_call<D: Disk, P: Program>(
     alloc: Global,
-    graph: &Graph,
+    input: &RunInput<'_>,
     program: P,
-    cut: &Cut,
-    plan: StoredPlan,
-    failures: &[FailureAt],
     journal: &mut Journal<D>,
     resumed: bool,
 ) -> Result<Started<P>, JournalFault>
-    requires cut { CanBeCut graph.now cut.now }
-    requires plan { IsInRange plan.run }
-    requires few { plan.run.machines < 65535 }
-    requires failures { AreJobFailures plan.run.machines failures.now }
-    requires graph { IsHeaderOf graph.now journal.old.header }
-    requires machines { journal.old.header.machines ≡ plan.run.machines }
+    requires cut { CanBeCut input.now.graph.now input.now.cut.now }
+    requires plan { IsInRange input.now.plan.run }
+    requires few { input.now.plan.run.machines < 65535 }
+    requires failures { AreJobFailures input.now.plan.run.machines input.now.failures.now }
+    requires graph { IsHeaderOf input.now.graph.now journal.old.header }
+    requires machines { journal.old.header.machines ≡ input.now.plan.run.machines }
     requires fresh { resumed ≡ false → journal.old.count ≡ 0 }
 
     // In each setting of the run in which the store is good the call has opened from it, and the
     // store keeps up.
     ensures started { IsTrue D.observable →
         IfOk result (λ started. (st : Setting) →
-        IsRunAt graph.now (P.meaning program) started.places st →
-        IsGoodStore (shared_of st failures.now) journal.old.header
+        IsRunAt input.now.graph.now (P.meaning program) started.places st →
+        IsGoodStore (shared_of st input.now.failures.now) journal.old.header
         (snapshots_in D.past journal.old) →
         HasStarted P.meaning started journal.old.header (snapshots_in D.past journal.old)
-        resumed plan.run.budget st) }
+        resumed input.now.plan.run.budget st) }
     // There is such a setting, with just this owner of each vertex.
     ensures setting { IfOk result (λ started. (st : Setting) ×
-        IsRunAt graph.now (P.meaning program) started.places st ×
-        (shared_of st failures.now ≡ run_shared graph.now (P.meaning program)
-        started.places failures.now)) }
+        IsRunAt input.now.graph.now (P.meaning program) started.places st ×
+        (shared_of st input.now.failures.now ≡ run_shared input.now.graph.now (P.meaning program)
+        started.places input.now.failures.now)) }
 
-    ensures places { IfOk result (λ started. ArePlacedFor graph.now cut.now plan started.places) }
-    ensures failures { IfOk result (λ started. started.trace.failures ≡ failures.now) }
+    ensures places { IfOk result (λ started.
+        ArePlacedFor input.now.graph.now input.now.cut.now input.now.plan started.places) }
+    ensures failures { IfOk result (λ started. started.trace.failures ≡ input.now.failures.now) }
     ensures machines { IfOk result (λ started.
-        length started.trace.now.machines.items ≡ plan.run.machines) }
+        length started.trace.now.machines.items ≡ input.now.plan.run.machines) }
     ensures runs { IfOk result (λ started. started.trace.now.stopped ≡ false) }
     ensures restarts { IfOk result (λ started.
         Begins started.restarts.stored.items started.restarts.front.items) }
@@ -90,20 +87,23 @@ pub fn start_call<D: Disk, P: Program>(
     ensures later { D.faults journal.old.disk ≤ D.faults journal.new.disk }
 {
     let stored = journal.count();
-    let base = recover(alloc, journal, graph, &program)?;
+    let base = recover(alloc, journal, input.graph, &program)?;
     let opening = opening_of(alloc, base, stored, resumed)?;
-    let Ok(places) = places_of(alloc, graph, &opening.base, cut, plan) else {
+    let Ok(places) = places_of(alloc, input.graph, &opening.base, input.cut, input.plan) else {
         drop(opening);
         return Err(JournalFault::NoMemory);
     };
+    let placed = PlacedProgram {
+        graph: input.graph,
+        program,
+        places: &places,
+    };
     let Ok(trace) = trace_of(
         alloc,
-        graph,
-        program,
-        &places,
+        &placed,
         &opening,
-        plan.run.budget,
-        failures,
+        input.plan.run.budget,
+        input.failures,
     ) else {
         drop(places);
         drop(opening);

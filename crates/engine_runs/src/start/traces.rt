@@ -7,13 +7,14 @@ ghost use Rattle.engine_runs.specs.start.Inner.Openings.{CanOpenWith, IsStoreOf,
 ghost use Rattle.gl_base.specs.declared.entries.Entry.{Entry};
 ghost use Rattle.graph_core.specs.DataGraph.{IsDataGraph};
 
+use crate::placed::PlacedProgram;
 use crate::start::openings::Opening;
 use crate::start::tickets::tickets_from;
 use cluster_step::trace::{Store, Trace};
 use gl_base::{Base, FailureAt, NoMemory};
 use graph_core::Graph;
 use placed_machines::any_machine::AnyMachine;
-use placed_machines::{Places, attempts_can_begin, machines_of_attempt};
+use placed_machines::machines_of_attempt;
 use std::alloc::Global;
 use update_api::Program;
 
@@ -21,38 +22,43 @@ use update_api::Program;
 /// failures.
 pub(crate) fn trace_of<P: Program>(
     alloc: Global,
-    graph: &Graph,
-    program: P,
-    places: &Places,
+    placed: &PlacedProgram<'_, P>,
     opening: &Opening,
     budget: u64,
     failures: &[FailureAt],
 ) -> Result<Trace<AnyMachine<P>>, NoMemory>
-    requires places { ArePlacesOf graph.now places.now.run.machines places.now }
-    requires few { places.now.run.machines < 65535 }
-    requires base { IsBaseFor graph.now opening.now.base }
+    requires places { ArePlacesOf placed.now.graph.now
+        placed.now.places.now.run.machines placed.now.places.now }
+    requires few { placed.now.places.now.run.machines < 65535 }
+    requires base { IsBaseFor placed.now.graph.now opening.now.base }
     requires number { opening.now.base.number + 1 < 2 ^ 32 }
     requires short { opening.now.base.length < 2 ^ 32 }
     ensures failures { IfOk result (λ trace. trace.failures ≡ failures.now) }
     ensures machines { IfOk result (λ trace.
-        length trace.now.machines.items ≡ places.now.run.machines) }
+        length trace.now.machines.items ≡ placed.now.places.now.run.machines) }
     ensures runs { IfOk result (λ trace. trace.now.stopped ≡ false) }
     ensures opened { IfOk result (λ trace.
         (st : Setting) (resumed : Bool) (kept : Vec Entry Global) →
-        IsRunAt graph.now (P.meaning program) places.now st →
+        IsRunAt placed.now.graph.now (P.meaning placed.now.program) placed.now.places.now st →
         CanOpenWith st failures.now resumed (base_with kept opening.now.base) opening.now.next
         budget → OpensWith P.meaning trace st resumed (base_with kept opening.now.base) budget) }
 {
-    attempts_can_begin();
     let listed = Vec::from_slice(alloc, failures)?;
-    let serials = Vec::from_elem(alloc, 0u64, places.run.machines as usize)?;
-    let machines = machines_of_attempt(alloc, graph, program, &opening.base, places, &serials)?;
-    let store = store_of(graph, &opening.base);
+    let serials = Vec::from_elem(alloc, 0u64, placed.places.run.machines as usize)?;
+    let machines = machines_of_attempt(
+        alloc,
+        placed.graph,
+        placed.program,
+        &opening.base,
+        placed.places,
+        &serials,
+    )?;
+    let store = store_of(placed.graph, &opening.base);
     let left = tickets_from(opening.next, budget);
     Trace::open(
         alloc,
         machines,
-        places.run.engine,
+        placed.places.run.engine,
         store,
         opening.next,
         left,

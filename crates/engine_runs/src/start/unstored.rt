@@ -6,6 +6,7 @@ ghost use Rattle.recovery.specs.Recovered.{IsStartBase};
 ghost use Rattle.store.specs.declared.store_format.header.Header.{Header};
 
 use crate::answers::StoredPlan;
+use crate::placed::PlacedProgram;
 use crate::start::openings::Opening;
 use crate::start::placing::places_of;
 use crate::start::starting::Started;
@@ -52,15 +53,12 @@ pub(crate) fn start_unstored<P: Program>(
         drop(opening);
         return Err(NoMemory);
     };
-    let Ok(trace) = trace_of(
-        alloc,
+    let placed = PlacedProgram {
         graph,
         program,
-        &places,
-        &opening,
-        plan.run.budget,
-        failures,
-    ) else {
+        places: &places,
+    };
+    let Ok(trace) = trace_of(alloc, &placed, &opening, plan.run.budget, failures) else {
         drop(places);
         drop(opening);
         return Err(NoMemory);

@@ -14,7 +14,6 @@ ghost use Rattle.call_laws.specs.whole_calls.Lost.{TakesAway};
 ghost use Rattle.engine_runs.specs.stores.Stores.{CallOpening, TraceGoesOn, TraceView, Header, IsTraceNow, IsGoodStore, IsKnownTrace, IsRecordBehind, IsRememberedAt, IsStoredTrace, Setting, as_since, first_cluster, stored_order};
 
 use cluster_step::trace::SavingMachine;
-use recovery::records::stores_keep_up;
 
 /// A good store keeps up as a call opens; it still does behind events that acknowledge nothing and
 /// begin no attempt; and where the record that is due is added and then acknowledged, it does so
@@ -48,9 +47,7 @@ pub fn stores_go_with_traces<M: SavingMachine>()
         GoesBackWith M.represents old machines engine store st o was.events was.cluster base →
         TakesAway (newest_setting st o was.events) was.cluster base gone →
         IsStoredTrace M.represents new header start bodies (lost ++ gone) st o }
-{
-    stores_keep_up();
-}
+{}
 
 /// What is known of a store is still known behind events that acknowledge nothing and begin no
 /// attempt.

@@ -1,6 +1,7 @@
 -- The lists are those of the run.
 use Rattle.std.proofs.Common.{All, inr, refl, rules, subst, sym, ◌++◌}
-use Rattle.engine_runs.specs.finish.Gathered.{gathered_lists}
+use Rattle.engine_runs.proofs.finish.EndLemmas.{ended}
+use Rattle.engine_runs.specs.finish.Gathered.{IsAnyMachineOf, gathered_lists}
 use Rattle.engine_runs.specs.declared.answers.runs.StoredRun.{StoredRun}
 use Rattle.engine_runs.proofs.Ended.{trace_so, gathers, run_so}
 use Rattle.engine_runs.specs.Runs.{HasTraceOf, IsEntryOf, IsRunSo, lists_of}
@@ -14,8 +15,8 @@ returns-in-Ok-clause-run g c = λ program header start added st o runs at.
     let lists = c.in-Ok.lists in
     subst (IsRunSo c.args.call.saves_end st c.args.failures.now o start added) (sym c.run_of.ensures)
     (run_so meaning graph program call header start added st o c.args.end runs at c.args.failures.now c.requires.failures c.requires.running lists
-    (c.in-Ok.ensures.gathered st o at.known.was.events at.known.was.cluster at.now (gathers meaning graph program call header start added st o c.args.end runs at))
-    (c.calls_end_so.ensures at.paused header start (start ++ added) call.lost.items call.restarts.stored.items call.restarts.front.items call.order.items st o at.known (gathered_lists lists)))
+    (c.in-Ok.ensures.gathered call.lost.items st o at.known.was.events at.known.was.cluster at.now (gathers meaning graph program call header start added st o c.args.end runs at))
+    (ended (IsAnyMachineOf meaning) at.paused header start (start ++ added) call.lost.items call.restarts.stored.items call.restarts.front.items call.order.items st o at.known (gathered_lists call.lost.items lists)))
 
 pub returns-in-Ok-clause-trace : goal.returns-in-Ok-clause-trace
 returns-in-Ok-clause-trace g c = λ program header start added st o runs at.
@@ -24,7 +25,7 @@ returns-in-Ok-clause-trace g c = λ program header start added st o runs at.
     let call = c.args.call in
     subst (λ (r : StoredRun). HasTraceOf c.args.failures.now st o at.known.was.events at.known.was.cluster (lists_of r)) (sym c.run_of.ensures)
     (trace_so meaning graph program call header start added st o c.args.end runs at c.args.failures.now c.requires.failures c.in-Ok.lists
-    (c.in-Ok.ensures.gathered st o at.known.was.events at.known.was.cluster at.now (gathers meaning graph program call header start added st o c.args.end runs at)))
+    (c.in-Ok.ensures.gathered call.lost.items st o at.known.was.events at.known.was.cluster at.now (gathers meaning graph program call header start added st o c.args.end runs at)))
 
 pub returns-in-Ok-clause-entries : goal.returns-in-Ok-clause-entries
 returns-in-Ok-clause-entries g c = subst (λ (r : StoredRun). All (IsEntryOf c.args.graph.now) r.order.items) (sym c.run_of.ensures) c.in-Ok.ensures.entries
@@ -34,5 +35,5 @@ returns-in-Err-OtherGraph-clause-other g c =
     inr (
       refl,
       λ program header start added st o runs at.
-          c.in-Err-OtherGraph.ensures.other (search rules) st o at.known.was.events at.known.was.cluster at.now (gathers g.P.Program.meaning c.args.graph.now program c.args.call header start added st o c.args.end runs at),
+          c.in-Err-OtherGraph.ensures.other (search rules) c.args.call.lost.items st o at.known.was.events at.known.was.cluster at.now (gathers g.P.Program.meaning c.args.graph.now program c.args.call header start added st o c.args.end runs at),
     )

@@ -4,6 +4,7 @@ use Rattle.std.proofs.lemmas.Result.{err_from_is_err_and}
 use Rattle.graph_core.specs.DataGraph.{IsDataGraph}
 use Rattle.store.specs.declared.snap_journal.faults.JournalFault.TheVariants.{BadStore}
 use Rattle.engine_runs.proofs.Refusing.{fault_in, same_fault}
+use Rattle.engine_runs.proofs.placement_is_unique.Placements.{placed_once}
 use Rattle.engine_runs.proofs.Runs.{all_finish, by_earlier, err_so, err_then, keeps_owner, never_full_of, never_other, never_spent, never_stopped, not_by_fault, not_gathered, ok_then, only_begun, only_gathered, only_stopped, run_by, short_first, runs_owner, stopped}
 use Rattle.engine_runs.specs.Calls.{EndsBy, snapshots_in}
 use Rattle.engine_runs.specs.Runs.{IsFinishedOrNoMemory, lists_of}
@@ -17,36 +18,36 @@ returns-in-Ok-clause-same g c = g.met.D.Disk.same_trans _ _ _ c.in_ok-call.ensur
 
 pub returns-in-Err-clause-refused : goal.returns-in-Err-clause-refused
 returns-in-Err-clause-refused g c =
-    let graph = c.args.graph.now in
+    let graph = c.args.input.now.graph.now in
     let there = c.in_ok-call.ensures.setting in
     let sound : IsDataGraph graph = subst IsDataGraph there.1.placed.graph there.1.setting.is.graph in
     stopped _ _ _ _ _ _ _
-    (λ told. keeps_owner g.P.Program.meaning g.D.Disk.past graph (g.P.Program.meaning c.args.program) c.args.cut.now c.args.plan c.args.failures.now c.args.journal.now c.begin.new.journal c.play_to_end.new.journal c.in_ok-call.call c.play_to_end.new.call c.args.resumed
-    sound c.in_ok-call.ensures.places (λ owner other. c.placements_are_one.ensures graph c.args.cut.now c.args.plan.run.machines owner other sound c.requires.plan.machines) (c.in_ok-call.ensures.begun told)
+    (λ told. keeps_owner g.P.Program.meaning g.D.Disk.past graph (g.P.Program.meaning c.args.program) c.args.input.now.cut.now c.args.input.now.plan c.args.input.now.failures.now c.args.journal.now c.begin.new.journal c.play_to_end.new.journal c.in_ok-call.call c.play_to_end.new.call c.args.resumed
+    sound c.in_ok-call.ensures.places (placed_once graph c.args.input.now.cut.now c.args.input.now.plan.run.machines c.requires.plan.machines) (c.in_ok-call.ensures.begun told)
     (c.in-Err.ensures.call.failures ∙ c.in_ok-call.ensures.failures) (c.in-Err.ensures.header ∙ c.in_ok-call.ensures.header) (c.in-Err.ensures.keeps told))
     c.in-Err.ensures.refused
 
 pub returns-in-Ok-clause-run : goal.returns-in-Ok-clause-run
 returns-in-Ok-clause-run g c = λ told.
-    let graph = c.args.graph.now in
+    let graph = c.args.input.now.graph.now in
     let there = c.in_ok-call.ensures.setting in
     let sound : IsDataGraph graph = subst IsDataGraph there.1.placed.graph there.1.setting.is.graph in
-    let counted : length (snapshots_in g.D.Disk.past c.args.journal.now) ≡ c.args.journal.now.count = sym (c.count-stored.ensures.stored told c.requires.well) ∙ c.count-stored.ensures.count in
+    let counted : length (snapshots_in g.D.Disk.past c.args.journal.now) ≡ c.args.journal.now.count = sym (c.in_ok-call.ensures.knew told c.requires.well).snapshots in
     ok_then c.gathered.result _ _
-    (λ run is. runs_owner g.P.Program.meaning g.D.Disk.past graph (g.P.Program.meaning c.args.program) c.args.cut.now c.args.plan c.args.failures.now c.args.journal.now c.begin.new.journal c.play_to_end.new.journal c.in_ok-call.call c.play_to_end.new.call c.args.resumed
-    sound c.in_ok-call.ensures.places (λ owner other. c.placements_are_one.ensures graph c.args.cut.now c.args.plan.run.machines owner other sound c.requires.plan.machines) (c.in_ok-call.ensures.begun told)
+    (λ run is. runs_owner g.P.Program.meaning g.D.Disk.past graph (g.P.Program.meaning c.args.program) c.args.input.now.cut.now c.args.input.now.plan c.args.input.now.failures.now c.args.journal.now c.begin.new.journal c.play_to_end.new.journal c.in_ok-call.call c.play_to_end.new.call c.args.resumed
+    sound c.in_ok-call.ensures.places (placed_once graph c.args.input.now.cut.now c.args.input.now.plan.run.machines c.requires.plan.machines) (c.in_ok-call.ensures.begun told)
     (c.in-Ok.ensures.call.failures ∙ c.in_ok-call.ensures.failures) (c.in-Ok.ensures.header ∙ c.in_ok-call.ensures.header)
     c.in-Ok.end run c.args.journal.now.count (c.in-Ok.ensures.ends told) c.in-Ok.ensures.call.places counted (c.in-Ok.ensures.call.saves ∙ c.in_ok-call.ensures.saves) is)
     c.gathered.ensures.run
 
 pub returns-in-Ok-clause-engine : goal.returns-in-Ok-clause-engine
 returns-in-Ok-clause-engine g c = λ told.
-    let graph = c.args.graph.now in
+    let graph = c.args.input.now.graph.now in
     let there = c.in_ok-call.ensures.setting in
     let sound : IsDataGraph graph = subst IsDataGraph there.1.placed.graph there.1.setting.is.graph in
     ok_then c.gathered.result _ _
-    (λ run is. run_by g.P.Program.meaning g.D.Disk.past graph (g.P.Program.meaning c.args.program) c.args.cut.now c.args.plan c.args.failures.now c.args.journal.now c.begin.new.journal c.play_to_end.new.journal c.in_ok-call.call c.play_to_end.new.call c.args.resumed
-    sound c.in_ok-call.ensures.places (λ owner other. c.placements_are_one.ensures graph c.args.cut.now c.args.plan.run.machines owner other sound c.requires.plan.machines) (c.in_ok-call.ensures.begun told)
+    (λ run is. run_by g.P.Program.meaning g.D.Disk.past graph (g.P.Program.meaning c.args.program) c.args.input.now.cut.now c.args.input.now.plan c.args.input.now.failures.now c.args.journal.now c.begin.new.journal c.play_to_end.new.journal c.in_ok-call.call c.play_to_end.new.call c.args.resumed
+    sound c.in_ok-call.ensures.places (placed_once graph c.args.input.now.cut.now c.args.input.now.plan.run.machines c.requires.plan.machines) (c.in_ok-call.ensures.begun told)
     (c.in-Ok.ensures.call.failures ∙ c.in_ok-call.ensures.failures) (c.in-Ok.ensures.header ∙ c.in_ok-call.ensures.header)
     c.in-Ok.end (lists_of run) (c.in-Ok.ensures.ends told) c.in-Ok.ensures.call.places is)
     c.gathered.ensures.trace
@@ -63,13 +64,13 @@ returns-in-Ok-clause-by g c =
 
 pub returns-in-Ok-clause-refused : goal.returns-in-Ok-clause-refused
 returns-in-Ok-clause-refused g c =
-    let graph = c.args.graph.now in
+    let graph = c.args.input.now.graph.now in
     let there = c.in_ok-call.ensures.setting in
     let sound : IsDataGraph graph = subst IsDataGraph there.1.placed.graph there.1.setting.is.graph in
     err_then c.gathered.result _ _
     (λ why other. not_gathered _ _ _ _ _ _ _ _ why
-    (λ told. keeps_owner g.P.Program.meaning g.D.Disk.past graph (g.P.Program.meaning c.args.program) c.args.cut.now c.args.plan c.args.failures.now c.args.journal.now c.begin.new.journal c.play_to_end.new.journal c.in_ok-call.call c.play_to_end.new.call c.args.resumed
-    sound c.in_ok-call.ensures.places (λ owner other. c.placements_are_one.ensures graph c.args.cut.now c.args.plan.run.machines owner other sound c.requires.plan.machines) (c.in_ok-call.ensures.begun told)
+    (λ told. keeps_owner g.P.Program.meaning g.D.Disk.past graph (g.P.Program.meaning c.args.program) c.args.input.now.cut.now c.args.input.now.plan c.args.input.now.failures.now c.args.journal.now c.begin.new.journal c.play_to_end.new.journal c.in_ok-call.call c.play_to_end.new.call c.args.resumed
+    sound c.in_ok-call.ensures.places (placed_once graph c.args.input.now.cut.now c.args.input.now.plan.run.machines c.requires.plan.machines) (c.in_ok-call.ensures.begun told)
     (c.in-Ok.ensures.call.failures ∙ c.in_ok-call.ensures.failures) (c.in-Ok.ensures.header ∙ c.in_ok-call.ensures.header) (c.in-Ok.ensures.keeps told))
     other)
     c.gathered.ensures.other
@@ -81,35 +82,35 @@ returns-in_err-call-clause-good g c = λ told owner placement good short bad is.
 
 pub returns-in-Err-clause-good : goal.returns-in-Err-clause-good
 returns-in-Err-clause-good g c = λ told owner placement good short bad is.
-    let graph = c.args.graph.now in
+    let graph = c.args.input.now.graph.now in
     let there = c.in_ok-call.ensures.setting in
     let sound : IsDataGraph graph = subst IsDataGraph there.1.placed.graph there.1.setting.is.graph in
-    never_stopped g.P.Program.meaning g.D.Disk.past graph (g.P.Program.meaning c.args.program) c.args.cut.now c.args.plan c.args.failures.now c.args.journal.now c.begin.new.journal c.play_to_end.new.journal c.in_ok-call.call c.play_to_end.new.call c.args.resumed
-    sound c.in_ok-call.ensures.places (λ owner other. c.placements_are_one.ensures graph c.args.cut.now c.args.plan.run.machines owner other sound c.requires.plan.machines) (c.in_ok-call.ensures.begun told)
+    never_stopped g.P.Program.meaning g.D.Disk.past graph (g.P.Program.meaning c.args.program) c.args.input.now.cut.now c.args.input.now.plan c.args.input.now.failures.now c.args.journal.now c.begin.new.journal c.play_to_end.new.journal c.in_ok-call.call c.play_to_end.new.call c.args.resumed
+    sound c.in_ok-call.ensures.places (placed_once graph c.args.input.now.cut.now c.args.input.now.plan.run.machines c.requires.plan.machines) (c.in_ok-call.ensures.begun told)
     (c.in-Err.ensures.call.failures ∙ c.in_ok-call.ensures.failures) (c.in-Err.ensures.header ∙ c.in_ok-call.ensures.header)
     c.requires.plan.budget c.requires.few c.requires.places c.in_ok-call.ensures.failures c.in_ok-call.ensures.long short owner placement good
     _ (c.in-Err.ensures.good told) bad (ap Err (same_fault c.in-Err.why (BadStore bad) is))
 
 pub returns-in-Ok-clause-good : goal.returns-in-Ok-clause-good
 returns-in-Ok-clause-good g c = λ told owner placement good short bad is.
-    let graph = c.args.graph.now in
+    let graph = c.args.input.now.graph.now in
     let there = c.in_ok-call.ensures.setting in
     let sound : IsDataGraph graph = subst IsDataGraph there.1.placed.graph there.1.setting.is.graph in
     err_so c.gathered.result _ (BadStore bad) c.gathered.ensures.other is
-    (λ other. never_other g.P.Program.meaning g.D.Disk.past graph (g.P.Program.meaning c.args.program) c.args.cut.now c.args.plan c.args.failures.now c.args.journal.now c.begin.new.journal c.play_to_end.new.journal c.in_ok-call.call c.play_to_end.new.call c.args.resumed
-    sound c.in_ok-call.ensures.places (λ owner other. c.placements_are_one.ensures graph c.args.cut.now c.args.plan.run.machines owner other sound c.requires.plan.machines) (c.in_ok-call.ensures.begun told)
+    (λ other. never_other g.P.Program.meaning g.D.Disk.past graph (g.P.Program.meaning c.args.program) c.args.input.now.cut.now c.args.input.now.plan c.args.input.now.failures.now c.args.journal.now c.begin.new.journal c.play_to_end.new.journal c.in_ok-call.call c.play_to_end.new.call c.args.resumed
+    sound c.in_ok-call.ensures.places (placed_once graph c.args.input.now.cut.now c.args.input.now.plan.run.machines c.requires.plan.machines) (c.in_ok-call.ensures.begun told)
     (c.in-Ok.ensures.call.failures ∙ c.in_ok-call.ensures.failures) (c.in-Ok.ensures.header ∙ c.in_ok-call.ensures.header)
     c.requires.plan.budget c.requires.few c.requires.places c.in_ok-call.ensures.failures c.in_ok-call.ensures.long short owner placement good
     c.in-Ok.end (c.in-Ok.ensures.ends told) c.in-Ok.ensures.call.places (BadStore bad) _ other bad refl)
 
 pub returns-in-Ok-clause-enough : goal.returns-in-Ok-clause-enough
 returns-in-Ok-clause-enough g c = λ told.
-    let graph = c.args.graph.now in
+    let graph = c.args.input.now.graph.now in
     let there = c.in_ok-call.ensures.setting in
     let sound : IsDataGraph graph = subst IsDataGraph there.1.placed.graph there.1.setting.is.graph in
     ok_then c.gathered.result _ _
-    (λ run is owner placement good bound steps enough left spent. never_spent g.P.Program.meaning g.D.Disk.past graph (g.P.Program.meaning c.args.program) c.args.cut.now c.args.plan c.args.failures.now c.args.journal.now c.begin.new.journal c.play_to_end.new.journal c.in_ok-call.call c.play_to_end.new.call c.args.resumed
-    sound c.in_ok-call.ensures.places (λ owner other. c.placements_are_one.ensures graph c.args.cut.now c.args.plan.run.machines owner other sound c.requires.plan.machines) (c.in_ok-call.ensures.begun told)
+    (λ run is owner placement good bound steps enough left spent. never_spent g.P.Program.meaning g.D.Disk.past graph (g.P.Program.meaning c.args.program) c.args.input.now.cut.now c.args.input.now.plan c.args.input.now.failures.now c.args.journal.now c.begin.new.journal c.play_to_end.new.journal c.in_ok-call.call c.play_to_end.new.call c.args.resumed
+    sound c.in_ok-call.ensures.places (placed_once graph c.args.input.now.cut.now c.args.input.now.plan.run.machines c.requires.plan.machines) (c.in_ok-call.ensures.begun told)
     (c.in-Ok.ensures.call.failures ∙ c.in_ok-call.ensures.failures) (c.in-Ok.ensures.header ∙ c.in_ok-call.ensures.header)
     c.in-Ok.ensures.call.places owner placement good c.in-Ok.end (c.in-Ok.ensures.ends told)
     bound steps enough left (sym is ∙ spent))
@@ -117,15 +118,15 @@ returns-in-Ok-clause-enough g c = λ told.
 
 pub returns-in-Ok-clause-roomy : goal.returns-in-Ok-clause-roomy
 returns-in-Ok-clause-roomy g c = λ told.
-    let graph = c.args.graph.now in
+    let graph = c.args.input.now.graph.now in
     let there = c.in_ok-call.ensures.setting in
     let sound : IsDataGraph graph = subst IsDataGraph there.1.placed.graph there.1.setting.is.graph in
     ok_then c.gathered.result _ _
-    (λ run is owner placement good room stored long full. never_full_of g.P.Program.meaning g.D.Disk.past graph (g.P.Program.meaning c.args.program) c.args.cut.now c.args.plan c.args.failures.now c.args.journal.now c.begin.new.journal c.play_to_end.new.journal c.in_ok-call.call c.play_to_end.new.call c.args.resumed
-    sound c.in_ok-call.ensures.places (λ owner other. c.placements_are_one.ensures graph c.args.cut.now c.args.plan.run.machines owner other sound c.requires.plan.machines) (c.in_ok-call.ensures.begun told)
+    (λ run is owner placement good room stored long full. never_full_of g.P.Program.meaning g.D.Disk.past graph (g.P.Program.meaning c.args.program) c.args.input.now.cut.now c.args.input.now.plan c.args.input.now.failures.now c.args.journal.now c.begin.new.journal c.play_to_end.new.journal c.in_ok-call.call c.play_to_end.new.call c.args.resumed
+    sound c.in_ok-call.ensures.places (placed_once graph c.args.input.now.cut.now c.args.input.now.plan.run.machines c.requires.plan.machines) (c.in_ok-call.ensures.begun told)
     (c.in-Ok.ensures.call.failures ∙ c.in_ok-call.ensures.failures) (c.in-Ok.ensures.header ∙ c.in_ok-call.ensures.header)
     c.in-Ok.ensures.call.places owner placement good c.in-Ok.end (c.in-Ok.ensures.ends told)
-    room (sym c.count-stored.ensures.count ∙ c.count-stored.ensures.stored told c.requires.well) (sym c.length-length.ensures.length ∙ c.length-length.ensures.stored told c.requires.well)
+    room (c.in_ok-call.ensures.knew told c.requires.well).snapshots (c.in_ok-call.ensures.knew told c.requires.well).bytes
     (c.in-Ok.ensures.call.stopped ∙ c.in_ok-call.ensures.can.running) _ _ c.in-Ok.ensures.by stored long (sym is ∙ full))
     c.gathered.ensures.end
 
@@ -140,19 +141,19 @@ returns-in_err-call-clause-complete g c = λ told owner placement good bound ste
 
 pub returns-in-Err-clause-complete : goal.returns-in-Err-clause-complete
 returns-in-Err-clause-complete g c = λ told owner placement good bound steps enough room none.
-    let graph = c.args.graph.now in
+    let graph = c.args.input.now.graph.now in
     let there = c.in_ok-call.ensures.setting in
     let sound : IsDataGraph graph = subst IsDataGraph there.1.placed.graph there.1.setting.is.graph in
     only_stopped c.in-Err.why c.in-Err.ensures.refused
-    (λ bad is. never_stopped g.P.Program.meaning g.D.Disk.past graph (g.P.Program.meaning c.args.program) c.args.cut.now c.args.plan c.args.failures.now c.args.journal.now c.begin.new.journal c.play_to_end.new.journal c.in_ok-call.call c.play_to_end.new.call c.args.resumed
-    sound c.in_ok-call.ensures.places (λ owner other. c.placements_are_one.ensures graph c.args.cut.now c.args.plan.run.machines owner other sound c.requires.plan.machines) (c.in_ok-call.ensures.begun told)
+    (λ bad is. never_stopped g.P.Program.meaning g.D.Disk.past graph (g.P.Program.meaning c.args.program) c.args.input.now.cut.now c.args.input.now.plan c.args.input.now.failures.now c.args.journal.now c.begin.new.journal c.play_to_end.new.journal c.in_ok-call.call c.play_to_end.new.call c.args.resumed
+    sound c.in_ok-call.ensures.places (placed_once graph c.args.input.now.cut.now c.args.input.now.plan.run.machines c.requires.plan.machines) (c.in_ok-call.ensures.begun told)
     (c.in-Err.ensures.call.failures ∙ c.in_ok-call.ensures.failures) (c.in-Err.ensures.header ∙ c.in_ok-call.ensures.header)
     c.requires.plan.budget c.requires.few c.requires.places c.in_ok-call.ensures.failures c.in_ok-call.ensures.long (short_first _ _ _ room.short) owner placement good
     _ (c.in-Err.ensures.good told) bad (ap Err is))
 
 pub returns-in-Ok-clause-complete : goal.returns-in-Ok-clause-complete
 returns-in-Ok-clause-complete g c = λ told owner placement good bound steps enough room none.
-    let graph = c.args.graph.now in
+    let graph = c.args.input.now.graph.now in
     let there = c.in_ok-call.ensures.setting in
     let sound : IsDataGraph graph = subst IsDataGraph there.1.placed.graph there.1.setting.is.graph in
     all_finish c.gathered.result
@@ -161,9 +162,12 @@ returns-in-Ok-clause-complete g c = λ told owner placement good bound steps eno
     (ok_then c.gathered.result _ _ (λ run by. not_by_fault c.play_to_end.new.journal _ _ run.end none by) (returns-in-Ok-clause-by g c))
     (err_then c.gathered.result _ _
     (λ why other. only_gathered why _ _ other
-    (never_other g.P.Program.meaning g.D.Disk.past graph (g.P.Program.meaning c.args.program) c.args.cut.now c.args.plan c.args.failures.now c.args.journal.now c.begin.new.journal c.play_to_end.new.journal c.in_ok-call.call c.play_to_end.new.call c.args.resumed
-    sound c.in_ok-call.ensures.places (λ owner other. c.placements_are_one.ensures graph c.args.cut.now c.args.plan.run.machines owner other sound c.requires.plan.machines) (c.in_ok-call.ensures.begun told)
+    (never_other g.P.Program.meaning g.D.Disk.past graph (g.P.Program.meaning c.args.program) c.args.input.now.cut.now c.args.input.now.plan c.args.input.now.failures.now c.args.journal.now c.begin.new.journal c.play_to_end.new.journal c.in_ok-call.call c.play_to_end.new.call c.args.resumed
+    sound c.in_ok-call.ensures.places (placed_once graph c.args.input.now.cut.now c.args.input.now.plan.run.machines c.requires.plan.machines) (c.in_ok-call.ensures.begun told)
     (c.in-Ok.ensures.call.failures ∙ c.in_ok-call.ensures.failures) (c.in-Ok.ensures.header ∙ c.in_ok-call.ensures.header)
     c.requires.plan.budget c.requires.few c.requires.places c.in_ok-call.ensures.failures c.in_ok-call.ensures.long (short_first _ _ _ room.short) owner placement good
     c.in-Ok.end (c.in-Ok.ensures.ends told) c.in-Ok.ensures.call.places why _ other))
     c.gathered.ensures.other)
+
+pub returns-in-Ok-clause-knows : goal.returns-in-Ok-clause-knows
+returns-in-Ok-clause-knows g c = λ told. ok_then c.gathered.result _ _ (λ run is. c.length-long.ensures.knows told) c.gathered.ensures.end

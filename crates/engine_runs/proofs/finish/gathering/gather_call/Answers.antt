@@ -9,7 +9,7 @@ use Rattle.graph_core.specs.DataGraph.{DataGraph, size}
 use Rattle.engine_runs.proofs.finish.gathering.gather_call.Goals as goal
 
 pub returns-then-not-are_of_graph-clause-other : goal.returns-then-not-are_of_graph-clause-other
-returns-then-not-are_of_graph-clause-other g c = λ is st o events x now from.
+returns-then-not-are_of_graph-clause-other g c = λ is lost st o events x now from.
     let has = c.in-Ok.ensures in
     let graph = c.args.graph.now in
     let other : c.are_of_graph.result ≡ false = search rules in
@@ -17,7 +17,7 @@ returns-then-not-are_of_graph-clause-other g c = λ is st o events x now from.
     (entries_here (IsAnyMachineOf g.P.Program.meaning) c.args.trace.now st o events x now c.args.front.items has.merged c.in-Ok.order.items from.base has.behind (has.merges st o events x now) graph from.graph)))
 
 pub returns-clause-gathered : goal.returns-clause-gathered
-returns-clause-gathered g c = λ st o events x now from.
+returns-clause-gathered g c = λ lost st o events x now from.
     let represents = IsAnyMachineOf g.P.Program.meaning in
     let has = c.in-Ok.ensures in
     let counts = c.in-Ok-counts_of.counts in

@@ -51,4 +51,4 @@ returns-clause-back g c = λ header order st o of runs known has.
     (λ to. made.stand st o known.was.events known.was.cluster known.was.now to) (store_view next.store) (ap (λ s. s.vertices) made.store ∙ room.vertices)
     (ap (λ s. s.edges) made.store ∙ room.edges) (ap (λ s. s.newest) made.store ∙ room.newest ∙ sym c.in-Ok.ensures.number)
     (ap (λ s. s.length) made.store ∙ room.place (near meaning trace header lost_now stored front order st o known failures failures_are c.requires.failures c.requires.machines))
-    next.front.items next.lost.items lost.0 (made.front ∙ ap (λ (es : List Entry). stored ++ es) c.deref-4.ensures.value) lost.1 (λ to. lost.2 st o known.was.events known.was.cluster known.was.now to))
+    next.front.items next.lost.items lost.0 made.front lost.1 (λ to. lost.2 st o known.was.events known.was.cluster known.was.now to))

@@ -8,7 +8,7 @@ use Rattle.engine_runs.proofs.start.starting.start_call.Goals as goal
 pub returns-clause-started : goal.returns-clause-started
 returns-clause-started g c = λ told st runs good.
     let meaning = g.P.Program.meaning in
-    let graph = c.args.graph.now in
+    let graph = c.args.input.now.graph.now in
     let program = g.P.Program.meaning c.args.program in
     let header = c.args.journal.now.header in
     let seen = (g.D.Disk.past c.args.journal.now.disk).now.seen in
@@ -16,9 +16,9 @@ returns-clause-started g c = λ told st runs good.
     let opening = c.in_ok-opening.opening in
     let trace = c.in-Ok-trace_of.trace in
     let places = c.in-Ok.places in
-    let failures = c.args.failures.now in
-    let budget = c.args.plan.run.budget in
-    let machines = c.args.plan.run.machines in
+    let failures = c.args.input.now.failures.now in
+    let budget = c.args.input.now.plan.run.budget in
+    let machines = c.args.input.now.plan.run.machines in
     let recovered = c.in_ok-base.ensures.base told in
     let low = low_stored graph program header seen base recovered in
     let op = c.in_ok-opening.ensures.opening in
@@ -32,7 +32,7 @@ returns-clause-started g c = λ told st runs good.
 
 pub returns-clause-setting : goal.returns-clause-setting
 returns-clause-setting g c =
-    some_setting c.args.graph.now (g.P.Program.meaning c.args.program) c.in-Ok.places c.args.plan.run.machines c.args.failures.now c.in-Ok.ensures.graph c.in-Ok.ensures.placed.are
+    some_setting c.args.input.now.graph.now (g.P.Program.meaning c.args.program) c.in-Ok.places c.args.input.now.plan.run.machines c.args.input.now.failures.now c.in-Ok.ensures.graph c.in-Ok.ensures.placed.are
 
 pub returns-clause-restarts : goal.returns-clause-restarts
 returns-clause-restarts g c = restarts_first c.args.resumed c.in_ok-base.base c.in_ok-opening.opening c.in_ok-opening.ensures.opening

@@ -6,27 +6,28 @@ use Rattle.engine_runs.proofs.start.TraceLemmas.{opens_so, starts_call, starts_s
 use Rattle.engine_runs.specs.start.Inner.Openings.{base_with}
 use Rattle.engine_runs.specs.start.Starting.{IsAnyMachineOf, opening_from, placed_owner}
 use Rattle.coordinator.specs.coord_core.Stores.{store_view}
+use Rattle.placed_machines.proofs.LawLemmas.{attempt_begins}
 use Rattle.placement.proofs.places.OwnerLemmas.{owner_low}
 use Rattle.engine_runs.proofs.start.traces.trace_of.Goals as goal
 
 pub open-requires-clause-start : goal.open-requires-clause-start
 open-requires-clause-start g c =
-    let graph = c.args.graph.now in
-    let places = c.args.places.now in
+    let graph = c.args.placed.now.graph.now in
+    let places = c.args.placed.now.places.now in
     let run = places.run in
     let colours = places.colours.items in
     let owner = placed_owner places.of.items places.owner.items in
     let store = c.store_of-store.result in
-    starts_some g.P.Program.meaning graph (g.P.Program.meaning c.args.program) owner colours run c.args.opening.now.base c.deref.result.now store c.store_of-store.ensures.store c.in_ok-machines.machines.items c.in_ok-machines.ensures.stand
+    starts_some g.P.Program.meaning graph (g.P.Program.meaning c.args.placed.now.program) owner colours run c.args.opening.now.base c.deref.result.now store c.store_of-store.ensures.store c.in_ok-machines.machines.items c.in_ok-machines.ensures.stand
     c.args.opening.now.next c.tickets_from-left.result
-    (c.attempts_can_begin.ensures graph (g.P.Program.meaning c.args.program) owner colours run c.args.opening.now.base c.deref.result.now c.args.opening.now.next c.tickets_from-left.result store.length c.store_of-store.ensures.graph
+    (attempt_begins graph (g.P.Program.meaning c.args.placed.now.program) owner colours run c.args.opening.now.base c.deref.result.now c.args.opening.now.next c.tickets_from-left.result store.length c.store_of-store.ensures.graph
     (owner_low graph run.machines places.of.items places.owner.items c.requires.places.each c.requires.places.atoms c.requires.places.owners) c.requires.places.colours c.requires.base)
 
 pub returns-clause-opened : goal.returns-clause-opened
 returns-clause-opened g c =
-    let graph = c.args.graph.now in
-    let program = g.P.Program.meaning c.args.program in
-    let places = c.args.places.now in
+    let graph = c.args.placed.now.graph.now in
+    let program = g.P.Program.meaning c.args.placed.now.program in
+    let places = c.args.placed.now.places.now in
     let run = places.run in
     let owner = placed_owner places.of.items places.owner.items in
     let store = c.store_of-store.result in
