@@ -99,7 +99,7 @@ module _ (job : JobSayings) (g : DataGraph) (cut : Cut) (old mid new : DiskPast)
 
   -- the run is one on its store
   pub runs-on-store : (resumed : Bool) (run : StoredRun) → IsDataGraph g → HasStart job.fields.algorithm job.fields.source g → HasEdgesFor job.fields.algorithm g → (resumed ≡ false → length bodies ≡ 0)
-      → IsStoreRunFrom job g cut program header true job.fields.window resumed (length bodies) bodies mid new run → RunsOnStore resumed job g cut old new run
+      → IsStoreRunFrom job g cut program header resumed bodies mid new run → RunsOnStore resumed job g cut old new run
   runs-on-store resumed run is start edges fresh from =
       let same : bodies ≡ snapshots_on job g old = sym (stands_are header old.now.seen bodies stands) in
       record {
@@ -194,10 +194,10 @@ not-stored told resumed job g cut header bodies old new before now journal.Faile
 not-stored told resumed job g cut header bodies old new before now journal.NoMemory long measured fresh refused = refused
 
 -- the same of another name of the header
-pub run-of-header : (job : JobSayings) (g : DataGraph) (cut : Cut) (p : Update) (one other : Header) (saves : Bool) (window : ℕ) (resumed : Bool) (count : ℕ) (bodies : List (List ℕ)) (old new : DiskPast) (run : StoredRun) → one ≡ other
-    → IsStoreRunFrom job g cut p one saves window resumed count bodies old new run → IsStoreRunFrom job g cut p other saves window resumed count bodies old new run
-run-of-header job g cut p one other saves window resumed count bodies old new run same from =
-    subst (λ (h : Header). IsStoreRunFrom job g cut p h saves window resumed count bodies old new run) same from
+pub run-of-header : (job : JobSayings) (g : DataGraph) (cut : Cut) (p : Update) (one other : Header) (resumed : Bool) (bodies : List (List ℕ)) (old new : DiskPast) (run : StoredRun) → one ≡ other
+    → IsStoreRunFrom job g cut p one resumed bodies old new run → IsStoreRunFrom job g cut p other resumed bodies old new run
+run-of-header job g cut p one other resumed bodies old new run same from =
+    subst (λ (h : Header). IsStoreRunFrom job g cut p h resumed bodies old new run) same from
 
 pub why-of-header : (told : Type 0) (resumed : Bool) (job : JobSayings) (g : DataGraph) (cut : Cut) (p : Update) (one other : Header) (bodies : List (List ℕ)) (old new : DiskPast) (before now : ℕ) (why : StoreError) → one ≡ other
     → RunOnJournalErrorCause told resumed job g cut p one bodies old new before now why → RunOnJournalErrorCause told resumed job g cut p other bodies old new before now why

@@ -1,5 +1,5 @@
 -- What the run of a program on an opened store says of the job.
-use Rattle.std.proofs.Common.{◌≡◌, ◌≤◌, ◌^◌, inl, inr, ℕ, ◌+◌, ◌*◌, Bool, false, List, length, Result, Ok, Err, refl, sym, ◌∙◌, subst, ⊎_elim}
+use Rattle.std.proofs.Common.{◌≡◌, ◌≤◌, ◌^◌, inl, inr, ℕ, ◌+◌, ◌*◌, Bool, false, true, List, length, Result, Ok, Err, refl, sym, ◌∙◌, subst, ⊎_elim}
 use Rattle.std.specs.Prelude.{All, IfErr, IfOk}
 use Rattle.graph_atoms.specs.declared.atom_gather.cuts.Cut.{Cut}
 use Rattle.gl_base.specs.declared.entries.Entry.{Entry}
@@ -14,6 +14,7 @@ use Rattle.placement.specs.plans.Plays.{IsPlacement}
 use Rattle.placement.specs.declared.plans.runs.RunPlan.{RunPlan}
 use Rattle.graph_text.specs.order_text.Orders.{IsEntryOf}
 use Rattle.recovery.specs.Journals.{JournalState, records_size, snapshots_in, stored_in, stored_order}
+use Rattle.store.specs.snap_journal.Journals.{KnowsStore}
 use Rattle.store.specs.declared.snap_journal.faults.JournalFault.{JournalFault}
 use Rattle.store.specs.declared.snap_journal.faults.JournalFault.TheVariants as journal
 use Rattle.store.specs.declared.store_format.faults.StoreFault.{StoreFault}
@@ -99,27 +100,25 @@ FullBy header new how =
     (stored bytes : ℕ) → how ≡ end.Full stored bytes → (stored ≡ length (stored_in header new.now.seen)) × (bytes ≡ 65 + records_size (stored_in header new.now.seen))
 
 -- what a journal that did not fail tells of what it has
-module _ {D : Type 0} (past : D → DiskPast) (told : Type 0) (journal : JournalState D) (count long before now : ℕ)
-    (count_is : count ≡ journal.count) (counted : told → journal.failed ≡ false → count ≡ length (snapshots_in past journal))
-    (long_is : long ≡ journal.length) (measured : told → journal.failed ≡ false → long ≡ 65 + records_size (snapshots_in past journal)) where
-  pub full-by : told → (how : StoredEnd) → EndsBy journal before now how → FullBy journal.header (past journal.disk) how
-  full-by is (end.Full s b) by stored bytes same =
+module _ {D : Type 0} (past : D → DiskPast) (journal : JournalState D) (before now : ℕ) (knows : journal.failed ≡ false → KnowsStore past journal) where
+  pub full-by : (how : StoredEnd) → EndsBy journal before now how → FullBy journal.header (past journal.disk) how
+  full-by (end.Full s b) by stored bytes same =
       let both = same_full same in (
-        sym both.0 ∙ by.1 ∙ sym count_is ∙ counted is by.0,
-        sym both.1 ∙ by.2 ∙ sym long_is ∙ measured is by.0,
+        sym both.0 ∙ by.1 ∙ (knows by.0).snapshots,
+        sym both.1 ∙ by.2 ∙ (knows by.0).bytes,
       )
     where
       same_full : end.Full s b ≡ end.Full stored bytes → (s ≡ stored) × (b ≡ bytes)
       same_full e = (cc, cc)
-  full-by is end.Finished by stored bytes same = absurd (no same)
+  full-by end.Finished by stored bytes same = absurd (no same)
     where
       no : end.Finished ≡ end.Full stored bytes → ⊥
       no e = cc
-  full-by is (end.Spent left) by stored bytes same = absurd (no same)
+  full-by (end.Spent left) by stored bytes same = absurd (no same)
     where
       no : end.Spent left ≡ end.Full stored bytes → ⊥
       no e = cc
-  full-by is end.DiskFault by stored bytes same = absurd (no same)
+  full-by end.DiskFault by stored bytes same = absurd (no same)
     where
       no : end.DiskFault ≡ end.Full stored bytes → ⊥
       no e = cc
@@ -139,16 +138,18 @@ module _ (job : JobSayings) (g : DataGraph) (cut : Cut) (p : Update) (bodies : L
       let B : List FailureAt → Type 0 = λ fs. F (plan_for job) fs header in
       subst B failures_are (subst A plan_is f)
 
-  pub run-from : (saves : Bool) (window : ℕ) (resumed : Bool) (count long : ℕ) (run : StoredRun) → long ≡ 65 + records_size bodies → GoesBy g cut p saves window resumed count bodies old new run plan failures header
-      → PlacedBy g cut plan failures header → MachinesBy g cut p saves window job.fields.engine bodies run plan failures header → EnoughBy g cut p bodies run plan failures header → RoomyBy g cut p saves window job.fields.engine count long bodies run plan failures header → FullBy after new run.end
-      → IsStoreRunFrom job g cut p header saves window resumed count bodies old new run
-  run-from saves window resumed count long run long_is goes placed machines enough roomy full = record {
-    goes_on = of-job (GoesBy g cut p saves window resumed count bodies old new run) goes;
+  pub run-from : (resumed : Bool) (count long : ℕ) (run : StoredRun) → count ≡ length bodies → long ≡ 65 + records_size bodies → GoesBy g cut p true job.fields.window resumed count bodies old new run plan failures header
+      → PlacedBy g cut plan failures header → MachinesBy g cut p true job.fields.window job.fields.engine bodies run plan failures header → EnoughBy g cut p bodies run plan failures header
+      → RoomyBy g cut p true job.fields.window job.fields.engine count long bodies run plan failures header → FullBy after new run.end → IsStoreRunFrom job g cut p header resumed bodies old new run
+  run-from resumed count long run count_is long_is goes placed machines enough roomy full = record {
+    goes_on = of-job (GoesBy g cut p true job.fields.window resumed (length bodies) bodies old new run)
+        (subst (λ (n : ℕ). GoesBy g cut p true job.fields.window resumed n bodies old new run plan failures header) count_is goes);
     placed = of-job (PlacedBy g cut) placed;
-    machines = of-job (MachinesBy g cut p saves window job.fields.engine bodies run) machines;
+    machines = of-job (MachinesBy g cut p true job.fields.window job.fields.engine bodies run) machines;
     enough = of-job (EnoughBy g cut p bodies run) enough;
-    roomy = of-job (RoomyBy g cut p saves window job.fields.engine count (65 + records_size bodies) bodies run)
-        (subst (λ (l : ℕ). RoomyBy g cut p saves window job.fields.engine count l bodies run plan failures header) long_is roomy);
+    roomy = of-job (RoomyBy g cut p true job.fields.window job.fields.engine (length bodies) (65 + records_size bodies) bodies run)
+        (subst (λ (l : ℕ). RoomyBy g cut p true job.fields.window job.fields.engine (length bodies) l bodies run plan failures header) long_is
+        (subst (λ (n : ℕ). RoomyBy g cut p true job.fields.window job.fields.engine n long bodies run plan failures header) count_is roomy));
     full = subst (λ (h : Header). FullBy h new run.end) still full;
   }
 
@@ -165,8 +166,3 @@ module _ (job : JobSayings) (g : DataGraph) (cut : Cut) (p : Update) (bodies : L
   why-not-stored told before now (journal.Full stored length) refused not = refused
   why-not-stored told before now journal.Failed refused not = refused
   why-not-stored told before now journal.NoMemory refused not = λ is. ⊎_elim (λ same. inl same) (λ keeps. inr (kept-by keeps)) (refused is)
-
--- the same of another name of the program
-pub by-program : (r : Result StoredRun JournalFault) (told : Type 0) (job : JobSayings) (g : DataGraph) (cut : Cut) (p q : Update) (header : Header) (bodies : List (List ℕ)) (old new : DiskPast) (before now : ℕ) → p ≡ q
-    → IfErr r (RunStoredErrorCause told job g cut p header bodies old new before now) → IfErr r (RunStoredErrorCause told job g cut q header bodies old new before now)
-by-program r told job g cut p q header bodies old new before now same refused = subst (λ (u : Update). IfErr r (RunStoredErrorCause told job g cut u header bodies old new before now)) same refused

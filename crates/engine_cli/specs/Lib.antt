@@ -11,3 +11,4 @@ pub mod Notes
 pub mod Made
 pub mod Verbs
 pub mod Inner
+pub mod Frame

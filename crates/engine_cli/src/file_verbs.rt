@@ -1,10 +1,11 @@
 //! The verbs that do their work on files alone: `make` writes a graph, `cut` the index and the
 //! atoms of one, and `init` a store.
-ghost use Rattle.std.specs.Prelude.{◌≡◌, ◌≤◌, List, ℕ};
+ghost use Rattle.std.specs.Prelude.{◌≡◌, List, ℕ};
 ghost use Rattle.gl_base.specs.declared.jobs.MakePlan.{MakePlan};
 ghost use Rattle.job_io.specs.declared.job_words.words.Words.TheVariants.{Cut, Init, Make};
 ghost use Rattle.engine_cli.specs.declared.status.Status.TheVariants.{Done};
 ghost use Rattle.engine_cli.specs.Status.{IsRefusal};
+ghost use Rattle.engine_cli.specs.Frame.{KeepsFiles, KeepsSink};
 ghost use Rattle.engine_cli.specs.Made.{IsAsked, IsOfFiles};
 ghost use Rattle.engine_cli.specs.Notes.{WritesNote, note_of};
 ghost use Rattle.engine_cli.specs.Verbs.{IsCutting, IsInit, IsMaking};
@@ -43,15 +44,13 @@ pub fn files_only<F: Files, K: Sink, N: Sink>(
         IsCutting file (F.state files.old) (F.state files.new) result }
     ensures init { (file : List ℕ) → words.now ≡ Init file →
         IsInit F.disks_observable file (F.state files.old) (F.state files.new) result }
-    ensures reads { (F.state files.old).sources.faults ≤ (F.state files.new).sources.faults }
-    ensures later { (F.state files.old).sinks.faults ≤ (F.state files.new).sinks.faults }
     ensures untouched { out.new ≡ out.old }
     ensures note { IsRefusal result →
         WritesNote (note_of result) (N.held note.old) (N.held note.new)
         (N.faults note.old) (N.faults note.new) }
     ensures done { result ≡ Done → note.new ≡ note.old }
-    ensures notes { N.faults note.old ≤ N.faults note.new }
-    ensures same_note { N.same note.old note.new }
+    ensures frame { KeepsFiles (F.state files.old) (F.state files.new) ×
+        KeepsSink N.same N.faults note.old note.new }
 {
     match words {
         Words::Run { .. } | Words::Resume { .. } => refuse(note, Status::Usage(UsageFault::Verb)),
@@ -73,8 +72,7 @@ pub fn files_only<F: Files, K: Sink, N: Sink>(
 /// Reads the job and its graph, cuts the graph, and writes the index and the atoms.
 fn cut_job<F: Files>(alloc: Global, files: &mut F, file: &str) -> Status
     ensures cut { IsCutting file.now (F.state files.old) (F.state files.new) result }
-    ensures reads { (F.state files.old).sources.faults ≤ (F.state files.new).sources.faults }
-    ensures writes { (F.state files.old).sinks.faults ≤ (F.state files.new).sinks.faults }
+    ensures frame { KeepsFiles (F.state files.old) (F.state files.new) }
 {
     let Input { job, graph, .. } = match read_input(alloc, files, file, JobVerb::Cut) {
         Ok(input) => input,
@@ -91,9 +89,9 @@ fn cut_job<F: Files>(alloc: Global, files: &mut F, file: &str) -> Status
 
 /// Reads the job and its graph, and makes the job's store.
 fn init_job<F: Files>(alloc: Global, files: &mut F, file: &str) -> Status
-    ensures init { IsInit F.disks_observable file.now (F.state files.old) (F.state files.new) result }
-    ensures reads { (F.state files.old).sources.faults ≤ (F.state files.new).sources.faults }
-    ensures writes { (F.state files.old).sinks.faults ≤ (F.state files.new).sinks.faults }
+    ensures init { IsInit F.disks_observable file.now (F.state files.old)
+        (F.state files.new) result }
+    ensures frame { KeepsFiles (F.state files.old) (F.state files.new) }
 {
     let Input { job, graph, .. } = match read_input(alloc, files, file, JobVerb::Init) {
         Ok(input) => input,

@@ -3,6 +3,7 @@ ghost use Rattle.std.specs.Prelude.{◌≡◌, ◌≤◌, [], ◌∷◌, codes, 
 ghost use Rattle.gl_base.specs.declared.job_faults.JobFault.TheVariants.{OutOfRange};
 ghost use Rattle.store.specs.declared.store_format.faults.StoreFault.TheVariants.{Machines};
 ghost use Rattle.engine_cli.specs.Notes.{WritesNote, atoms_kind_name, atoms_note, full_note, graph_note, job_note, note_of, joined, store_note};
+ghost use Rattle.engine_cli.specs.Frame.{KeepsSink};
 ghost use Rattle.engine_cli.specs.Inner.Writes.{WritesAll};
 ghost use Rattle.gl_base.specs.FaultNames.{key_name};
 
@@ -21,8 +22,7 @@ pub fn refuse<N: Sink>(note: &mut N, status: Status) -> Status
     ensures status { result ≡ status }
     ensures note { WritesNote (note_of result) (N.held note.old) (N.held note.new)
         (N.faults note.old) (N.faults note.new) }
-    ensures later { N.faults note.old ≤ N.faults note.new }
-    ensures same { N.same note.old note.new }
+    ensures frame { KeepsSink N.same N.faults note.old note.new }
 {
     let _ = tell(note, &status);
     status

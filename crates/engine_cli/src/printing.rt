@@ -1,5 +1,5 @@
 //! Prints what a run left: its order, where the job names a file for it, and the answer.
-ghost use Rattle.std.specs.Prelude.{◌≡◌, ◌≤◌, length, All, Err, IfOk};
+ghost use Rattle.std.specs.Prelude.{◌≡◌, length, All, Err, IfOk};
 ghost use Rattle.graph_core.specs.DataGraph.{size};
 ghost use Rattle.graph_text.specs.declared.generate.making.Writing.TheVariants.{NoMemory as NoMemoryAtOut};
 ghost use Rattle.job_io.specs.job_config.Views.{job_view};
@@ -7,6 +7,7 @@ ghost use Rattle.graph_text.specs.order_text.Orders.{IsEntryOf};
 ghost use Rattle.engine_cli.specs.Answer.{report_of};
 ghost use Rattle.job_io.specs.whole_files.FilesUsed.{WritesFiles};
 ghost use Rattle.engine_cli.specs.NamesWritten.{order_names};
+ghost use Rattle.engine_cli.specs.Frame.{KeepsSink};
 ghost use Rattle.engine_cli.specs.Inner.Printing.{Prints, printed_of};
 ghost use Rattle.engine_cli.specs.StatusMeanings.{moment};
 
@@ -41,8 +42,7 @@ pub fn print_run<F: Files, K: Sink>(
         ((F.state files.new).contents ≡ (F.state files.old).contents) }
     ensures wrote { WritesFiles (order_names (job_view prepared.now.job).fields.order)
         (F.state files.old) (F.state files.new) }
-    ensures faults { K.faults out.old ≤ K.faults out.new }
-    ensures same { K.same out.old out.new }
+    ensures frame { KeepsSink K.same K.faults out.old out.new }
 {
     let Prepared { job, graph, run } = prepared;
     let text = answer(alloc, graph, &run.numbers, job.algorithm)?;

@@ -3,6 +3,7 @@ ghost use Rattle.std.specs.Prelude.{◌≡◌, ℕ, ◌≤◌, [], false, List, 
 ghost use Rattle.gl_outside.specs.Frames.{ChangesSources};
 ghost use Rattle.job_io.specs.job_files.NamesRead.{RunOpens, names_of};
 ghost use Rattle.job_io.specs.whole_files.FilesUsed.{OpensInOrder};
+ghost use Rattle.engine_cli.specs.Frame.{KeepsFiles, KeepsSink};
 ghost use Rattle.engine_cli.specs.Inner.Prepares.{ChangesInput, IsMadeRun, IsOfRun, IsPrepared, IsPrintable, IsRunnable, RunInputErrorCause, UsesNamed, unfinished_status};
 ghost use Rattle.engine_cli.specs.JobRuns.{is_resumed, lists_of_call, lists_of_run, no_lists};
 ghost use Rattle.engine_cli.specs.JobStores.{UsesStore};
@@ -24,6 +25,15 @@ use job_io::job_stores::StoreError;
 use std::alloc::Global;
 use std::sync::Wait;
 
+/// What is asked of a run: by which verb, of the job in which file, and whether its answer is
+/// reported.
+#[derive(Clone, Copy)]
+pub struct RunAsked<'a> {
+    pub verb: JobVerb,
+    pub file: &'a str,
+    pub is_reported: bool,
+}
+
 /// How a run ended, what it leaves, and what is to be reported of it.
 #[derive(Drop)]
 pub struct RunEnd {
@@ -44,32 +54,28 @@ pub struct Prepared {
 pub fn run_job<R: Wait, F: Files, K: Sink>(
     rt: &R,
     alloc: Global,
-    asked: JobVerb,
-    file: &str,
-    is_reported: bool,
+    asked: &RunAsked<'_>,
     files: &mut F,
     out: &mut K,
 ) -> RunEnd
-    requires { IsOfRun asked }
-    ensures run { IsRun F.disks_observable asked file.now is_reported
+    requires { IsOfRun asked.now.verb }
+    ensures run { IsRun F.disks_observable asked.now.verb asked.now.file.now asked.now.is_reported
         (moment (F.state files.old) (K.faults out.old) (K.held out.old))
         (moment (F.state files.new) (K.faults out.new) (K.held out.new))
         (λ report. result.report.items ≡ report) (lists_of_call result.ended) result.ended.status }
-    ensures quiet { is_reported ≡ false → result.report.items ≡ [] }
+    ensures quiet { asked.now.is_reported ≡ false → result.report.items ≡ [] }
     ensures untouched { IsBeforeWriting result.ended.status → out.new ≡ out.old }
-    ensures reads { (F.state files.old).sources.faults ≤ (F.state files.new).sources.faults }
-    ensures writes { (F.state files.old).sinks.faults ≤ (F.state files.new).sinks.faults }
-    ensures faults { K.faults out.old ≤ K.faults out.new }
-    ensures same { K.same out.old out.new }
+    ensures frame { KeepsFiles (F.state files.old) (F.state files.new) ×
+        KeepsSink K.same K.faults out.old out.new }
 {
-    let prepared = match prepare(rt, alloc, asked, file, files) {
+    let prepared = match prepare(rt, alloc, asked.verb, asked.file, files) {
         Ok(prepared) => prepared,
         Err(status) => return refused(alloc, status),
     };
     if let Some(status) = unfinished(prepared.run.end) {
         return ended(status, Vec::new(alloc), prepared);
     }
-    match print_run(alloc, files, out, &prepared, is_reported) {
+    match print_run(alloc, files, out, &prepared, asked.is_reported) {
         Ok(report) => ended(Status::Done, report, prepared),
         Err(Writing::WriteFault) => ended(Status::WriteFault, Vec::new(alloc), prepared),
         Err(Writing::NoMemory) => refused(alloc, Status::NoMemory),

@@ -1,9 +1,6 @@
 //! Runs the job's algorithm on its graph, from the job's store and into it.
 ghost use Rattle.std.specs.Prelude.{true, ◌≡◌, ◌≤◌, IfErr, IfOk, IsTrue, false, length};
-ghost use Rattle.graph_atoms.specs.atom_gather.Cuts.{CanBeCut};
-ghost use Rattle.job_io.specs.job_config.Ranges.{HasNumbers};
 ghost use Rattle.job_io.specs.job_config.Views.{job_view};
-ghost use Rattle.job_io.specs.job_files.JobTexts.{HasStart};
 ghost use Rattle.job_io.specs.job_stores.NewStores.{UsesDisk};
 ghost use Rattle.recovery.specs.Journals.{snapshots_in};
 ghost use Rattle.recovery.specs.Recovered.{IsHeaderOf};
@@ -11,19 +8,15 @@ ghost use Rattle.engine_runs.specs.declared.answers.runs.StoredEnd.TheVariants.{
 ghost use Rattle.gl_outside.specs.Faults.{Rose};
 ghost use Rattle.gl_outside.specs.FilesState.{disk_past};
 ghost use Rattle.gl_outside.specs.Frames.{ChangesDisk};
-ghost use Rattle.call_laws.specs.whole_calls.Following.{AreJobFailures};
 ghost use Rattle.engine_cli.specs.JobRuns.{RunsOnStore};
 ghost use Rattle.engine_cli.specs.Inner.Prepares.{IsPrintable, IsRunnable};
 ghost use Rattle.engine_cli.specs.Inner.Storing.{IsStoreRunFrom, IsRunIntoStore, RunOnStoreErrorCause, RunOnDiskErrorCause, RunOnJournalErrorCause, RunStoredErrorCause, no_store_of_open, no_store_of_journal, no_store_of_run};
 ghost use Rattle.engine_cli.specs.Plays.{update_of};
 
 use crate::playing::{plan_of, program_of};
-use engine_runs::answers::{StoredPlan, StoredRun};
+use engine_runs::answers::{RunInput, StoredPlan, StoredRun};
 use engine_runs::run_stored;
-use gl_base::Job;
 use gl_outside::{Disk, DiskOf, Files, OpenFault};
-use graph_atoms::atom_gather::Cut;
-use graph_core::Graph;
 use job_io::job_files::Input;
 use job_io::job_stores::{StoreError, header_of};
 use std::alloc::Global;
@@ -123,15 +116,14 @@ fn run_on_journal<R: Wait, D: Disk>(
         IfOk result (λ run. resumed ≡ false → length (snapshots_in D.past journal.old) ≡ 0) }
     ensures run { IsTrue D.observable →
         IfOk result (IsStoreRunFrom (job_view input.now.job) input.now.graph input.now.cut
-        (update_of input.now.job.algorithm input.now.job.source) journal.old.header true
-        input.now.job.window resumed
-        (length (snapshots_in D.past journal.old)) (snapshots_in D.past journal.old)
-        (D.past journal.old.disk) (D.past journal.new.disk)) }
+        (update_of input.now.job.algorithm input.now.job.source) journal.old.header resumed
+        (snapshots_in D.past journal.old) (D.past journal.old.disk) (D.past journal.new.disk)) }
     ensures fault { IfOk result (λ run. run.end ≡ DiskFault →
         Rose (D.faults journal.old.disk) (D.faults journal.new.disk)) }
     ensures printable { IfOk result (IsPrintable input.now.graph) }
     ensures refused { IfErr result
-        (RunOnJournalErrorCause (IsTrue D.observable) resumed (job_view input.now.job) input.now.graph
+        (RunOnJournalErrorCause (IsTrue D.observable) resumed
+        (job_view input.now.job) input.now.graph
         input.now.cut (update_of input.now.job.algorithm input.now.job.source) journal.old.header
         (snapshots_in D.past journal.old) (D.past journal.old.disk) (D.past journal.new.disk)
         (D.faults journal.old.disk) (D.faults journal.new.disk)) }
@@ -143,128 +135,57 @@ fn run_on_journal<R: Wait, D: Disk>(
     if !resumed && count > 0 {
         return Err(StoreError::BadStore(StoreFault::Used(count)));
     }
-    let window = input.job.window;
-    match run_stored_on(
-        rt,
-        alloc,
-        &input.graph,
-        &input.cut,
-        &input.job,
-        true,
-        window,
-        journal,
-        resumed,
-    ) {
+    let program = program_of(&input.job);
+    match run_stored_by(rt, alloc, input, program, journal, resumed) {
         Ok(run) => Ok(run),
         Err(fault) => Err(why_not_run_from(fault, length)),
     }
 }
 
-/// Runs the job's algorithm by its program on the graph, which is cut so, with snapshots as this
-/// window asks, and one of the end where that is saved.
-fn run_stored_on<R: Wait, D: Disk>(
-    rt: &R,
-    alloc: Global,
-    graph: &Graph,
-    cut: &Cut,
-    job: &Job,
-    saves_end: bool,
-    window: u32,
-    journal: &mut Journal<D>,
-    resumed: bool,
-) -> Result<StoredRun, JournalFault>
-    requires cut { CanBeCut graph.now cut.now }
-    requires start { HasStart job.now.algorithm job.now.source graph.now }
-    requires numbers { HasNumbers (job_view job.now).fields }
-    requires failures { AreJobFailures job.now.machines job.now.failures.items }
-    requires few { length job.now.failures.items ≤ 64 }
-    requires graph { IsHeaderOf graph.now journal.old.header }
-    requires machines { journal.old.header.machines ≡ job.now.machines }
-    requires fresh { resumed ≡ false → journal.old.count ≡ 0 }
-    requires well { journal.old.failed ≡ false }
-    ensures run { IsTrue D.observable →
-        IfOk result (IsStoreRunFrom (job_view job.now) graph.now cut.now
-        (update_of job.now.algorithm job.now.source) journal.old.header saves_end window resumed
-        journal.old.count (snapshots_in D.past journal.old) (D.past journal.old.disk)
-        (D.past journal.new.disk)) }
-    ensures fault { IfOk result (λ run. run.end ≡ DiskFault →
-        Rose (D.faults journal.old.disk) (D.faults journal.new.disk)) }
-    ensures printable { IfOk result (IsPrintable graph.now) }
-    ensures refused { IfErr result
-        (RunStoredErrorCause (IsTrue D.observable) (job_view job.now) graph.now cut.now
-        (update_of job.now.algorithm job.now.source) journal.old.header
-        (snapshots_in D.past journal.old) (D.past journal.old.disk) (D.past journal.new.disk)
-        (D.faults journal.old.disk) (D.faults journal.new.disk)) }
-    ensures same { D.same journal.old.disk journal.new.disk }
-    ensures later { D.faults journal.old.disk ≤ D.faults journal.new.disk }
-{
-    let program = program_of(job);
-    run_stored_by(
-        rt, alloc, graph, program, cut, job, saves_end, window, journal, resumed,
-    )
-}
-
-/// Runs a program on the graph, which is cut so, by the numbers of the job and its failures, with
-/// snapshots as this window asks, and one of the end where that is saved.
+/// Runs a program on the job's graph from an opened store and into it, by the numbers of the job and
+/// its failures, with snapshots as its window asks, and one of the end.
 fn run_stored_by<R: Wait, D: Disk, P: Program>(
     rt: &R,
     alloc: Global,
-    graph: &Graph,
+    input: &Input,
     program: P,
-    cut: &Cut,
-    job: &Job,
-    saves_end: bool,
-    window: u32,
     journal: &mut Journal<D>,
     resumed: bool,
 ) -> Result<StoredRun, JournalFault>
-    requires cut { CanBeCut graph.now cut.now }
-    requires start { HasStart job.now.algorithm job.now.source graph.now }
-    requires numbers { HasNumbers (job_view job.now).fields }
-    requires failures { AreJobFailures job.now.machines job.now.failures.items }
-    requires few { length job.now.failures.items ≤ 64 }
-    requires graph { IsHeaderOf graph.now journal.old.header }
-    requires machines { journal.old.header.machines ≡ job.now.machines }
+    requires input { IsRunnable input.now }
+    requires graph { IsHeaderOf input.now.graph journal.old.header }
+    requires machines { journal.old.header.machines ≡ input.now.job.machines }
     requires fresh { resumed ≡ false → journal.old.count ≡ 0 }
     requires well { journal.old.failed ≡ false }
     ensures run { IsTrue D.observable →
-        IfOk result (IsStoreRunFrom (job_view job.now) graph.now cut.now (P.meaning program)
-        journal.old.header saves_end window resumed
-        journal.old.count (snapshots_in D.past journal.old) (D.past journal.old.disk)
-        (D.past journal.new.disk)) }
+        IfOk result (IsStoreRunFrom (job_view input.now.job) input.now.graph input.now.cut
+        (P.meaning program) journal.old.header resumed
+        (snapshots_in D.past journal.old) (D.past journal.old.disk) (D.past journal.new.disk)) }
     ensures fault { IfOk result (λ run. run.end ≡ DiskFault →
         Rose (D.faults journal.old.disk) (D.faults journal.new.disk)) }
-    ensures printable { IfOk result (IsPrintable graph.now) }
+    ensures printable { IfOk result (IsPrintable input.now.graph) }
     ensures refused { IfErr result
-        (RunStoredErrorCause (IsTrue D.observable) (job_view job.now) graph.now cut.now
-        (P.meaning program) journal.old.header
+        (RunStoredErrorCause (IsTrue D.observable) (job_view input.now.job) input.now.graph
+        input.now.cut (P.meaning program) journal.old.header
         (snapshots_in D.past journal.old) (D.past journal.old.disk) (D.past journal.new.disk)
         (D.faults journal.old.disk) (D.faults journal.new.disk)) }
     ensures same { D.same journal.old.disk journal.new.disk }
     ensures later { D.faults journal.old.disk ≤ D.faults journal.new.disk }
 {
+    let job = &input.job;
     let plan = StoredPlan {
         run: plan_of(job),
-        window,
+        window: job.window,
         engine: job.engine,
-        saves_end,
+        saves_end: true,
     };
-    // The readers tell how many snapshots and bytes the store has, before and behind the run.
-    let _short = journal.length();
-    let run = run_stored(
-        rt,
-        alloc,
-        graph,
-        program,
-        cut,
+    let input = RunInput {
+        graph: &input.graph,
+        cut: &input.cut,
+        failures: &job.failures,
         plan,
-        &job.failures,
-        journal,
-        resumed,
-    );
-    let _stored = journal.count();
-    let _long = journal.length();
-    run
+    };
+    run_stored(rt, alloc, &input, program, journal, resumed)
 }
 
 /// Why there is no run where the store's file was not opened.

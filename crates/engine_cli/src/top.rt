@@ -1,11 +1,12 @@
 //! The top call.
-ghost use Rattle.std.specs.Prelude.{◌≡◌, ◌⊎◌, ◌<◌, ◌≤◌, [], false, length, Err};
+ghost use Rattle.std.specs.Prelude.{◌≡◌, ◌⊎◌, ◌<◌, [], false, length, Err};
 ghost use Rattle.gl_base.specs.declared.usage_faults.UsageFault.{UsageFault};
 ghost use Rattle.job_io.specs.job_words.CommandLine.{IsCommandLine, command_line_of};
 ghost use Rattle.job_io.specs.job_words.WordForms.{texts};
 ghost use Rattle.job_io.specs.declared.job_words.words.Words.{Words};
 ghost use Rattle.engine_cli.specs.declared.status.Status.TheVariants.{Done, Usage, NoMemory};
 ghost use Rattle.engine_cli.specs.Status.{IsBeforeWriting, IsRefusal};
+ghost use Rattle.engine_cli.specs.Frame.{KeepsFiles, KeepsSink};
 ghost use Rattle.engine_cli.specs.Made.{IsAsked, IsOfFiles};
 ghost use Rattle.engine_cli.specs.Notes.{WritesNote, note_of};
 ghost use Rattle.engine_cli.specs.StatusMeanings.{moment};
@@ -15,7 +16,7 @@ ghost use Rattle.engine_cli.specs.Verbs.{IsCall, IsQuiet, IsRun};
 
 use crate::file_verbs::files_only;
 use crate::notes::refuse;
-use crate::running::{RunEnd, no_run, run_job};
+use crate::running::{RunAsked, RunEnd, no_run, run_job};
 use crate::{Ended, Status};
 use gl_outside::{Files, Gate, Sink, write_all};
 use job_io::job_files::JobVerb;
@@ -58,7 +59,8 @@ pub fn engine<R: Wait, F: Files, K: Sink, N: Sink, G: Gate + Sync>(
 
     // What the verb leaves, by each status.
     ensures verb { (asked : Words) → IsCommandLine (texts words.now) asked →
-        IsCall F.disks_observable asked (moment (F.state files.old) (K.faults out.old) (K.held out.old))
+        IsCall F.disks_observable asked
+        (moment (F.state files.old) (K.faults out.old) (K.held out.old))
         (moment (F.state files.new) (K.faults out.new) (K.held out.new))
         (λ report. WritesNote report (N.held note.old) (N.held note.new) (N.faults note.old)
         (N.faults note.new)) result }
@@ -80,12 +82,9 @@ pub fn engine<R: Wait, F: Files, K: Sink, N: Sink, G: Gate + Sync>(
 
     // What stays.
     ensures untouched { IsBeforeWriting result.status → out.new ≡ out.old }
-    ensures reads { (F.state files.old).sources.faults ≤ (F.state files.new).sources.faults }
-    ensures writes { (F.state files.old).sinks.faults ≤ (F.state files.new).sinks.faults }
-    ensures faults { K.faults out.old ≤ K.faults out.new }
-    ensures same { K.same out.old out.new }
-    ensures notes { N.faults note.old ≤ N.faults note.new }
-    ensures same_note { N.same note.old note.new }
+    ensures frame { KeepsFiles (F.state files.old) (F.state files.new) ×
+        KeepsSink K.same K.faults out.old out.new ×
+        KeepsSink N.same N.faults note.old note.new }
 {
     match read_words(alloc, words) {
         Ok(asked) => do_command(rt, alloc, &asked, files, out, note),
@@ -115,34 +114,27 @@ fn do_command<R: Wait, F: Files, K: Sink, N: Sink>(
         (N.faults note.old) (N.faults note.new) }
     ensures quiet { IsQuiet asked.now → result.status ≡ Done → note.new ≡ note.old }
     ensures untouched { IsBeforeWriting result.status → out.new ≡ out.old }
-    ensures reads { (F.state files.old).sources.faults ≤ (F.state files.new).sources.faults }
-    ensures writes { (F.state files.old).sinks.faults ≤ (F.state files.new).sinks.faults }
-    ensures faults { K.faults out.old ≤ K.faults out.new }
-    ensures same { K.same out.old out.new }
-    ensures notes { N.faults note.old ≤ N.faults note.new }
-    ensures same_note { N.same note.old note.new }
+    ensures frame { KeepsFiles (F.state files.old) (F.state files.new) ×
+        KeepsSink K.same K.faults out.old out.new ×
+        KeepsSink N.same N.faults note.old note.new }
 {
     match asked {
-        Words::Run { file, report } => run_file(
-            rt,
-            alloc,
-            JobVerb::Run,
-            file.as_str(),
-            *report,
-            files,
-            out,
-            note,
-        ),
-        Words::Resume { file, report } => run_file(
-            rt,
-            alloc,
-            JobVerb::Resume,
-            file.as_str(),
-            *report,
-            files,
-            out,
-            note,
-        ),
+        Words::Run { file, report } => {
+            let asked = RunAsked {
+                verb: JobVerb::Run,
+                file: file.as_str(),
+                is_reported: *report,
+            };
+            run_file(rt, alloc, &asked, files, out, note)
+        }
+        Words::Resume { file, report } => {
+            let asked = RunAsked {
+                verb: JobVerb::Resume,
+                file: file.as_str(),
+                is_reported: *report,
+            };
+            run_file(rt, alloc, &asked, files, out, note)
+        }
         Words::Make { .. } => no_run(alloc, files_only(alloc, asked, files, out, note)),
         Words::Cut { .. } => no_run(alloc, files_only(alloc, asked, files, out, note)),
         Words::Init { .. } => no_run(alloc, files_only(alloc, asked, files, out, note)),
@@ -153,15 +145,13 @@ fn do_command<R: Wait, F: Files, K: Sink, N: Sink>(
 fn run_file<R: Wait, F: Files, K: Sink, N: Sink>(
     rt: &R,
     alloc: Global,
-    asked: JobVerb,
-    file: &str,
-    is_reported: bool,
+    asked: &RunAsked<'_>,
     files: &mut F,
     out: &mut K,
     note: &mut N,
 ) -> Ended
-    requires { IsOfRun asked }
-    ensures run { IsRun F.disks_observable asked file.now is_reported
+    requires { IsOfRun asked.now.verb }
+    ensures run { IsRun F.disks_observable asked.now.verb asked.now.file.now asked.now.is_reported
         (moment (F.state files.old) (K.faults out.old) (K.held out.old))
         (moment (F.state files.new) (K.faults out.new) (K.held out.new))
         (λ report. WritesNote report (N.held note.old) (N.held note.new) (N.faults note.old)
@@ -169,16 +159,13 @@ fn run_file<R: Wait, F: Files, K: Sink, N: Sink>(
     ensures note { IsRefusal result.status →
         WritesNote (note_of result.status) (N.held note.old) (N.held note.new)
         (N.faults note.old) (N.faults note.new) }
-    ensures quiet { is_reported ≡ false → result.status ≡ Done → note.new ≡ note.old }
+    ensures quiet { asked.now.is_reported ≡ false → result.status ≡ Done → note.new ≡ note.old }
     ensures untouched { IsBeforeWriting result.status → out.new ≡ out.old }
-    ensures reads { (F.state files.old).sources.faults ≤ (F.state files.new).sources.faults }
-    ensures writes { (F.state files.old).sinks.faults ≤ (F.state files.new).sinks.faults }
-    ensures faults { K.faults out.old ≤ K.faults out.new }
-    ensures same { K.same out.old out.new }
-    ensures notes { N.faults note.old ≤ N.faults note.new }
-    ensures same_note { N.same note.old note.new }
+    ensures frame { KeepsFiles (F.state files.old) (F.state files.new) ×
+        KeepsSink K.same K.faults out.old out.new ×
+        KeepsSink N.same N.faults note.old note.new }
 {
-    let RunEnd { ended, report } = run_job(rt, alloc, asked, file, is_reported, files, out);
+    let RunEnd { ended, report } = run_job(rt, alloc, asked, files, out);
     let Ended {
         status,
         order,
@@ -207,8 +194,7 @@ fn tell_report<N: Sink>(note: &mut N, report: &[u8]) -> Status
     ensures note { WritesNote report.now (N.held note.old) (N.held note.new)
         (N.faults note.old) (N.faults note.new) }
     ensures quiet { report.now ≡ [] → note.new ≡ note.old }
-    ensures later { N.faults note.old ≤ N.faults note.new }
-    ensures same { N.same note.old note.new }
+    ensures frame { KeepsSink N.same N.faults note.old note.new }
 {
     if !report.is_empty() {
         let _ = write_all(note, report);

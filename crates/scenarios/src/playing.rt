@@ -112,7 +112,8 @@ fn play_step<'a, R: Wait>(
             stage.fail_once(turns.calls, turns.count.saturating_add(1));
             let held = play_call(rt, alloc, step, &words, stage, page);
             let _ = stage.faults.pop();
-            play_turns(rt, alloc, step, turns, &words, stage, page);
+            let told = play_turns(rt, alloc, step, turns, &words, stage);
+            page.add(told.as_str());
             held
         }
         None => play_call(rt, alloc, step, &words, stage, page),

@@ -31,8 +31,9 @@ impl<'a> Turns<'a> {
     }
 }
 
-/// Makes the call of a step so many times, in which one call fails in turn, and adds what the first
-/// of them left. What a later one left is added where it differs from what the one before it left.
+/// Makes the call of a step so many times, in which one call fails in turn. Returns what the first of
+/// them left, and behind it what a later one left where that differs from what the one before it
+/// left.
 pub fn play_turns<'a, R: Wait>(
     rt: &R,
     alloc: Global,
@@ -40,9 +41,9 @@ pub fn play_turns<'a, R: Wait>(
     turns: Turns<'a>,
     words: &[String],
     stage: &mut Stage<'a>,
-    page: &mut Page,
-) {
-    add_heads(alloc, step, page);
+) -> Page {
+    let mut page = Page::new(alloc);
+    add_heads(alloc, step, &mut page);
     let mut last = Page::new(alloc);
     for number in 0..turns.count.min(MOST_TURNS) {
         stage.fail_once(turns.calls, number.saturating_add(1));
@@ -53,6 +54,7 @@ pub fn play_turns<'a, R: Wait>(
             last = turn;
         }
     }
+    page
 }
 
 /// Adds the lines that ask for turns, as they were understood.

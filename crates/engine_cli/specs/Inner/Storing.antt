@@ -1,5 +1,5 @@
 -- What running a job on its store answers, at each of its steps.
-use Rattle.std.specs.Prelude.{◌≡◌, ◌⊎◌, ◌+◌, ◌*◌, ◌^◌, ◌<◌, ◌≤◌, ℕ, Bool, false, List, length}
+use Rattle.std.specs.Prelude.{◌≡◌, ◌⊎◌, ◌+◌, ◌*◌, ◌^◌, ◌<◌, ◌≤◌, ℕ, Bool, false, true, List, length}
 use Rattle.graph_atoms.specs.declared.atom_gather.cuts.Cut.{Cut}
 use Rattle.gl_base.specs.declared.entries.Entry.{Entry}
 use Rattle.gl_base.specs.declared.numbers.Vertex.{Vertex}
@@ -33,19 +33,19 @@ use Rattle.engine_cli.specs.JobStores.{IsNotRunFrom, KeepsGoing, KeepsImages, Re
 abbrev pub shared_with : JobSayings → DataGraph → Update → (ℕ → ℕ) → Shared
 shared_with job g p owner = record { graph = g; program = p; owner = owner; failures = job.failures }
 
--- A run of this program with this window, whose end is saved or not, on the placed graph, from an opened store for this header with these snapshots, which are so many. From one
+-- A run of this program on the placed graph, with the job's window and its end saved, from an opened store for this header with these snapshots. From one
 -- that is good for it the run is one that goes on from it; it spends no budget that has the steps of each attempt, and fills no store that has room for it.
-pub record IsStoreRunFrom (job : JobSayings) (g : DataGraph) (cut : Cut) (p : Update) (header : Header) (saves : Bool) (window : ℕ) (resumed : Bool) (count : ℕ) (bodies : List (List ℕ)) (old new : DiskPast) (run : StoredRun) : Type 0 where
+pub record IsStoreRunFrom (job : JobSayings) (g : DataGraph) (cut : Cut) (p : Update) (header : Header) (resumed : Bool) (bodies : List (List ℕ)) (old new : DiskPast) (run : StoredRun) : Type 0 where
   pub goes_on : (owner : ℕ → ℕ) → IsPlacement g cut job.fields.machines owner → IsGoodStore (shared_with job g p owner) header bodies →
-      (snapshots : List (List Entry)) × IsStoredRun saves (shared_with job g p owner) job.fields.machines window job.fields.budget count (stored_order bodies) resumed snapshots run
+      (snapshots : List (List Entry)) × IsStoredRun true (shared_with job g p owner) job.fields.machines job.fields.window job.fields.budget (length bodies) (stored_order bodies) resumed snapshots run
       × KeepsGood (shared_with job g p owner) header bodies snapshots old new
   pub placed : (owner : ℕ → ℕ) × IsPlacement g cut job.fields.machines owner
   pub machines : (owner : ℕ → ℕ) → IsPlacement g cut job.fields.machines owner → IsGoodStore (shared_with job g p owner) header bodies →
-      IsRunBy g cut p (plan_with job saves window) job.failures (lists_of run)
+      IsRunBy g cut p (plan_with job true job.fields.window) job.failures (lists_of run)
   pub enough : (owner : ℕ → ℕ) → IsPlacement g cut job.fields.machines owner → IsGoodStore (shared_with job g p owner) header bodies →
       (bound : ℕ) → BoundsSteps g p bound → (1 + length job.failures) * bound ≤ job.fields.budget → (left : Vertex) → run.end ≡ end.Spent left → ⊥
   pub roomy : (owner : ℕ → ℕ) → IsPlacement g cut job.fields.machines owner → IsGoodStore (shared_with job g p owner) header bodies →
-      HasRoomForRun g (plan_with job saves window) (length job.failures) count (65 + records_size bodies) → (stored bytes : ℕ) → run.end ≡ end.Full stored bytes → ⊥
+      HasRoomForRun g (plan_with job true job.fields.window) (length job.failures) (length bodies) (65 + records_size bodies) → (stored bytes : ℕ) → run.end ≡ end.Full stored bytes → ⊥
   pub full : (stored bytes : ℕ) → run.end ≡ end.Full stored bytes → (stored ≡ length (stored_in header new.now.seen)) × (bytes ≡ 65 + records_size (stored_in header new.now.seen))
 
 -- a good store with these snapshots may have got others, and keeps what it had

@@ -21,7 +21,7 @@ returns-in-Ok-clause-run g c told =
     (IfOk-two c.run_on_journal.result _ _ _
     (λ run fresh from.
     runs-on-store job graph cut old (g.D.Disk.past c.in-Ok.journal.disk) (g.D.Disk.past c.run_on_journal.new.journal.disk) bodies (g.met.D.Disk.reads_an_image c.args.disk told) stands (c.in-Ok.ensures.any_moment told)
-    c.args.resumed run c.requires.graph c.requires.start c.requires.edges_fit fresh (run-of-header job graph cut _ c.in-Ok.journal.header (header_for job.fields graph) _ _ c.args.resumed _ bodies _ _ run same from))
+    c.args.resumed run c.requires.graph c.requires.start c.requires.edges_fit fresh (run-of-header job graph cut _ c.in-Ok.journal.header (header_for job.fields graph) c.args.resumed bodies _ _ run same from))
     (c.run_on_journal.ensures.fresh told) (c.run_on_journal.ensures.run told))
 
 pub returns-in-Ok-clause-refused : goal.returns-in-Ok-clause-refused

@@ -17,12 +17,12 @@ returns-clause-run g c =
       | in-Done w ↦
           let retells : List ℕ → Type 0 = λ told. WritesNote told (g.N.Sink.held c.args.note.now) (g.N.Sink.held w.tell_report-status.new.note) (g.N.Sink.faults c.args.note.now) (g.N.Sink.faults w.tell_report-status.new.note) in
           rw (w.status-is, w.note-is, w.tell_report-status.ensures.status)
-          (rw w.in-Done.is at (run-retold g.F.Files.disks_observable c.args.asked c.args.file.now c.args.is_reported before now tells retells lists ended.ended.status
+          (rw w.in-Done.is at (run-retold g.F.Files.disks_observable c.args.asked.now.verb c.args.asked.now.file.now c.args.asked.now.is_reported before now tells retells lists ended.ended.status
           (λ done told is. subst retells is (rw w.deref.ensures.value at w.tell_report-status.ensures.note)) c.run_job-ended.ensures.run))
       | in_default w ↦
           let retells : List ℕ → Type 0 = λ told. WritesNote told (g.N.Sink.held c.args.note.now) (g.N.Sink.held w.refuse-status.new.note) (g.N.Sink.faults c.args.note.now) (g.N.Sink.faults w.refuse-status.new.note) in
           rw (w.status-is, w.note-is, w.refuse-status.ensures.status)
-          (run-retold g.F.Files.disks_observable c.args.asked c.args.file.now c.args.is_reported before now tells retells lists ended.ended.status
+          (run-retold g.F.Files.disks_observable c.args.asked.now.verb c.args.asked.now.file.now c.args.asked.now.is_reported before now tells retells lists ended.ended.status
           (λ is. absurd (w.in_default.not-Done is)) c.run_job-ended.ensures.run)
     ]
 
