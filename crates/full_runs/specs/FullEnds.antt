@@ -2,19 +2,13 @@
 pub use Rattle.cluster_laws.specs.cluster_cuts.Goings.{AreUpdatesFrom, IsByOwner}
 pub use Rattle.cluster_laws.specs.merged_logs.Merges.{is_of}
 use Rattle.std.specs.List.{AllByRecursion}
-use Rattle.std.specs.Prelude.{◌≡◌, ℕ, ◌<◌, ◌≤◌, true, List, length, map, slice_index, Option, MatchOption}
+use Rattle.std.specs.Prelude.{◌≡◌, ℕ, ◌<◌, ◌≤◌, true, List, length, Option, MatchOption}
 use Rattle.gl_base.specs.declared.entries.Entry.{Entry}
-use Rattle.gl_base.specs.declared.numbers.AtomNo.{AtomNo}
-use Rattle.gl_base.specs.declared.numbers.MachineNo.{MachineNo}
 use Rattle.gl_base.specs.declared.numbers.Vertex.{Vertex}
 use Rattle.graph_core.specs.DataGraph.{DataGraph, size}
 use Rattle.seq_run.specs.Runs.{AreNumbers}
 use Rattle.full_scope.specs.FullOrders.{full_replay, full_tasks_after, IsFullyFinished, IsFullyValid}
 use Rattle.full_scope.specs.FullUpdates.{FullUpdate}
-
--- the machine of a vertex is that of its atom
-abbrev pub owner_by : List AtomNo → List MachineNo → ℕ → ℕ
-owner_by of owner v = slice_index (map (λ m. m.0) owner) (slice_index (map (λ a. a.0) of) v)
 
 -- The order is valid, its tickets are 0, 1, 2 and so on, the owner of its vertex made each update, and its replay gives the
 -- numbers of vertices and edges.

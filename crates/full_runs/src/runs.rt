@@ -4,13 +4,14 @@ ghost use Rattle.graph_core.specs.DataGraph.{size, IsDataGraph};
 ghost use Rattle.seq_run.specs.Runs.{AreNumbers};
 ghost use Rattle.task_sets.specs.vertex_queue.Flags.{is_flagged};
 ghost use Rattle.full_scope.specs.FullStates.{full_start};
-ghost use Rattle.full_runs.specs.FullEnds.{owner_by, RunsFullyTo};
+ghost use Rattle.full_cluster.specs.Owners.{owner_in};
+ghost use Rattle.full_runs.specs.FullEnds.{RunsFullyTo};
 ghost use Rattle.full_runs.specs.Inner.SoFar.{AreSoFar};
 
 use crate::tasks::retask;
-use full_cluster::update_at;
+use full_cluster::{Division, update_at};
 use full_scope::FullProgram;
-use gl_base::{AtomNo, Entry, MachineNo, NoMemory, Vertex};
+use gl_base::{Entry, NoMemory, Vertex};
 use graph_core::Graph;
 use std::alloc::Global;
 use task_sets::vertex_queue::VertexQueue;
@@ -36,29 +37,24 @@ struct SoFar {
 }
 
 /// Runs a program until no task is left, but makes no more than `budget` updates. Vertices wait in
-/// ascending order, first in, first out, and the machine of its atom makes each update of a vertex.
+/// ascending order, first in, first out, and the order tells that its owner updates each vertex.
 pub fn run_full<P: FullProgram>(
     alloc: Global,
-    graph: &Graph,
+    division: &Division<'_>,
     program: &P,
-    of: &[AtomNo],
-    owner: &[MachineNo],
     budget: u64,
 ) -> Result<FullEnd, NoMemory>
-    requires undirected { graph.now.directed ≡ false }
-    requires atoms { length of.now ≡ size graph.now }
-    requires owners { All (λ a. a.0 < length owner.now) of.now }
     ensures { IfOk result (λ end.
-        RunsFullyTo graph.now (P.meaning program.now) (owner_by of.now owner.now) budget
+        RunsFullyTo division.now.graph.now (P.meaning program.now)
+        (owner_in division.now.owner.now) budget
         end.order.items end.values.items end.edges.items end.left) }
 {
-    let mut run = SoFar::new(alloc, graph, program)?;
+    let mut run = SoFar::new(alloc, division.graph, program)?;
     for _made in 0..budget {
         let Some(vertex) = run.tasks.front() else {
             return Ok(run.ended(None));
         };
-        let machine = machine_of(of, owner, vertex);
-        run.update(alloc, graph, program, machine, vertex)?;
+        run.update(alloc, division, program, vertex)?;
     }
     let left = run.tasks.front();
     Ok(run.ended(left))
@@ -83,31 +79,38 @@ impl SoFar {
         })
     }
 
-    /// Makes the update of a task, by this machine.
+    /// Makes the update of a task, by the owner of the vertex.
     fn update<P: FullProgram>(
         &mut self,
         alloc: Global,
-        graph: &Graph,
+        division: &Division<'_>,
         program: &P,
-        machine: MachineNo,
         v: Vertex,
     ) -> Result<(), NoMemory>
-        requires graph { IsDataGraph graph.now }
-        requires undirected { graph.now.directed ≡ false }
-        requires count { length self.old.values.items ≡ size graph.now }
-        requires edge_count { length self.old.edges.items ≡ length graph.now.edges }
-        requires task_count { length self.old.tasks ≡ size graph.now }
+        requires count { length self.old.values.items ≡ size division.now.graph.now }
+        requires edge_count { length self.old.edges.items
+            ≡ length division.now.graph.now.edges }
+        requires task_count { length self.old.tasks ≡ size division.now.graph.now }
         requires task { is_flagged self.old.tasks v.0 ≡ true }
-        ensures so_far { (owner : ℕ → ℕ) → machine.0 ≡ owner v.0 →
-            AreSoFar graph.now (P.meaning program.now) owner
+        ensures so_far { let owner = owner_in division.now.owner.now in
+            let p = P.meaning program.now in let g = division.now.graph.now in
+            AreSoFar g p owner
             self.old.order.items self.old.values.items self.old.edges.items self.old.tasks →
-            OnOk result (AreSoFar graph.now (P.meaning program.now) owner
+            OnOk result (AreSoFar g p owner
             self.new.order.items self.new.values.items self.new.edges.items self.new.tasks) }
         ensures longer { OnOk result
             (length self.new.order.items ≡ length self.old.order.items + 1) }
     {
-        let woken = update_at(alloc, graph, program, v, &mut self.values, &mut self.edges)?;
-        retask(&mut self.tasks, v, woken, graph.halves(v));
+        let machine = division.owner_of(v);
+        let woken = update_at(
+            alloc,
+            division,
+            program,
+            v,
+            &mut self.values,
+            &mut self.edges,
+        )?;
+        retask(&mut self.tasks, v, woken, division.graph.halves(v));
         let ticket = self.order.len() as u64;
         self.order.push(Entry::Go {
             ticket,
@@ -150,20 +153,11 @@ fn start_values<P: FullProgram>(
     Ok(values)
 }
 
-/// The machine of a vertex: that of its atom.
-fn machine_of(of: &[AtomNo], owner: &[MachineNo], v: Vertex) -> MachineNo
-    requires inside { v.0 < length of.now }
-    requires owners { All (λ a. a.0 < length owner.now) of.now }
-    ensures { result.0 ≡ owner_by of.now owner.now v.0 }
-{
-    owner[of[v.0 as usize].0 as usize]
-}
-
 #[cfg(test)]
 mod tests {
     use super::*;
     use crate::counts_by_machine;
-    use gl_base::INF;
+    use gl_base::{INF, MachineNo};
     use graph_core::EdgeIn;
     use prog_match::Pairs;
 
@@ -188,11 +182,13 @@ mod tests {
             panic!(rt; "two edges are a graph");
         };
         assert_eq!(rt; graph.n(), 5);
-        assert!(rt; !graph.directed());
-        let of = [AtomNo(0), AtomNo(0), AtomNo(0), AtomNo(1), AtomNo(1)];
-        let owner = [MachineNo(0), MachineNo(1)];
+        let (low, high) = (MachineNo(0), MachineNo(1));
+        let owner = [low, low, low, high, high];
+        let Some(division) = Division::new(&graph, &owner) else {
+            panic!(rt; "an owner for each vertex");
+        };
         for (budget, left, counts) in [(5, None, [3, 2]), (4, Some(Vertex(4)), [3, 1])] {
-            let Ok(end) = run_full(alloc, &graph, &Pairs, &of, &owner, budget) else {
+            let Ok(end) = run_full(alloc, &division, &Pairs, budget) else {
                 panic!(rt; "memory");
             };
             assert_eq!(rt; end.values.as_slice(), [2, 1, 4, 3, INF].as_slice());
