@@ -27,7 +27,7 @@ pub found_begins : {P : Type 0} (meaning : P → Update) (x : LockingMachineView
 found_begins meaning x orderly counted f found ticket st a m snap is =
     let within : MayUpdateWithin st a f.vertex.0 m = record {
       may = at_once_here meaning st a m x is f.vertex.0 (may_here x.machine.core f orderly found st snap.is is.here);
-      room = room_is meaning st a m x is snap counted ∙ found.waits.opened;
+      room = room_is meaning st a m x is counted ∙ found.waits.opened;
     } in (
       asks st (worked_at_once st a f.vertex.0 ticket m),
       done_at_once st a f.vertex.0 ticket m snap.is is.here.engine within.may is.none_held (closed_is meaning st a m x is) within,
