@@ -21,6 +21,7 @@ mod works;
 
 pub use graphs::LocalGraph;
 pub use outlines::Outline;
+pub use playing::MachineLines;
 pub use rows::Row;
 pub use sides::Side;
 pub use works::{Batch, Outcome, Work};

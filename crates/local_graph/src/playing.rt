@@ -28,10 +28,10 @@ const NO_DATUM: Datum = Datum {
 
 /// The lines of a machine: of its own vertices, and of the ghosts beside them.
 #[derive(Drop)]
-struct MachineLines<'a> {
-    me: MachineNo,
-    own: &'a [VertexLine],
-    ghosts: &'a [GhostLine],
+pub struct MachineLines<'a> {
+    pub me: MachineNo,
+    pub own: &'a [VertexLine],
+    pub ghosts: &'a [GhostLine],
 }
 
 impl LocalGraph {
@@ -71,24 +71,22 @@ impl LocalGraph {
         play_halves(alloc, &played, outline, first, &halves, room)
     }
 
-    /// Machine `me`'s part of this graph, one of so many machines, from the lines of its own
-    /// vertices and of the ghosts beside them. Its order of vertices is that of `play`, and no
-    /// number is set yet.
+    /// A machine's part of this graph, one of so many machines, from the lines of its own vertices
+    /// and of the ghosts beside them. Its order of vertices is that of `play`, and no number is set
+    /// yet.
     pub fn of(
         alloc: Global,
-        me: MachineNo,
         graph: &Graph,
-        own: &[VertexLine],
-        ghosts: &[GhostLine],
+        lines: &MachineLines<'_>,
         machines: u16,
         first: Vertex,
     ) -> Result<LocalGraph, NoMemory>
-        requires vertices { All (λ v. v.vertex.0 < size graph.now) own.now }
-        requires ghosts { All (λ g. g.vertex.0 < size graph.now) ghosts.now }
-        requires few { length own.now + length ghosts.now ≤ size graph.now }
+        requires vertices { All (λ v. v.vertex.0 < size graph.now) lines.now.own.now }
+        requires ghosts { All (λ g. g.vertex.0 < size graph.now) lines.now.ghosts.now }
+        requires few { length lines.now.own.now + length lines.now.ghosts.now ≤ size graph.now }
         ensures { IfOk result (λ local.
-            IsMadeOf me own.now ghosts.now (graph_halves graph.now) machines
-            (length graph.now.edges) local) }
+            IsMadeOf lines.now.me lines.now.own.now lines.now.ghosts.now (graph_halves graph.now)
+            machines (length graph.now.edges) local) }
     {
         let outline = Outline {
             machines,
@@ -97,9 +95,8 @@ impl LocalGraph {
             directed: graph.directed(),
         };
         let halves = graph.half_rows();
-        let room = count_halves(own, halves);
-        let lines = MachineLines { me, own, ghosts };
-        play_halves(alloc, &lines, outline, first, halves, room)
+        let room = count_halves(lines.own, halves);
+        play_halves(alloc, lines, outline, first, halves, room)
     }
 }
 

@@ -7,7 +7,7 @@ use crate::graphs::graph_of;
 use gl_base::{AtomNo, Lines, MAX_VERTICES, MachineNo, NoMemory, Vertex};
 use graph_atoms::atom_cut::lines_of;
 use graph_core::Graph;
-use local_graph::{LocalGraph, Outline, Side};
+use local_graph::{LocalGraph, MachineLines, Outline, Side};
 use std::alloc::Global;
 use std::io;
 
@@ -197,15 +197,12 @@ fn made(
     if !are_few || !are_low {
         return Err(NoMemory);
     }
-    let local = LocalGraph::of(
-        alloc,
+    let held = MachineLines {
         me,
-        graph,
-        &lines.vertices,
-        &lines.ghosts,
-        3,
-        Vertex(0),
-    )?;
+        own: &lines.vertices,
+        ghosts: &lines.ghosts,
+    };
+    let local = LocalGraph::of(alloc, graph, &held, 3, Vertex(0))?;
     Ok(local)
 }
 

@@ -8,7 +8,7 @@ use crate::graphs::owners::vertex_owners;
 use gl_base::{AtomNo, Lines, MachineNo, NoMemory, Vertex};
 use graph_atoms::atom_cut::vertices_of;
 use graph_core::Graph;
-use local_graph::LocalGraph;
+use local_graph::{LocalGraph, MachineLines};
 use std::alloc::Global;
 
 /// The part of each of so many machines, where `of` says in which atom each vertex is, and `owner`
@@ -68,15 +68,12 @@ fn make_all(
     let mut locals = Vec::with_capacity(alloc, all.len())?;
     for lines in all {
         let me = MachineNo(locals.len() as u16);
-        locals.push(LocalGraph::of(
-            alloc,
+        let held = MachineLines {
             me,
-            graph,
-            &lines.vertices,
-            &lines.ghosts,
-            machines,
-            first,
-        )?)?;
+            own: &lines.vertices,
+            ghosts: &lines.ghosts,
+        };
+        locals.push(LocalGraph::of(alloc, graph, &held, machines, first)?)?;
     }
     Ok(locals)
 }

@@ -30,9 +30,9 @@ returns c =
     let g = c.args.graph.now in
     let rows = c.half_rows-halves.result.now in
     let outline : Outline = record { machines = c.args.machines; vertices = c.n.result; edges = c.m.result; directed = c.directed.result } in
-    ok_to c.play_halves.result (IsPlayedBy c.args.me c.args.own.now c.args.ghosts.now rows outline)
-    (IsMadeOf c.args.me c.args.own.now c.args.ghosts.now (graph_halves g) c.args.machines (length g.edges))
+    ok_to c.play_halves.result (IsPlayedBy c.args.lines.now.me c.args.lines.now.own.now c.args.lines.now.ghosts.now rows outline)
+    (IsMadeOf c.args.lines.now.me c.args.lines.now.own.now c.args.lines.now.ghosts.now (graph_halves g) c.args.machines (length g.edges))
     (λ local made.
-    subst (λ (m : ℕ). IsMadeOf c.args.me c.args.own.now c.args.ghosts.now (graph_halves g) c.args.machines m local) c.m.ensures.count
+    subst (λ (m : ℕ). IsMadeOf c.args.lines.now.me c.args.lines.now.own.now c.args.lines.now.ghosts.now (graph_halves g) c.args.machines m local) c.m.ensures.count
     (made (graph_halves g) (λ v low. let n = c.n.ensures.count in let inside : v < size g = omega arith in rows_are (get_or rows v []) (halves_of g v) (c.half_rows-halves.ensures.1 v inside)) (graph_back g c.n.ensures.graph)))
     c.play_halves.ensures
