@@ -1,4 +1,4 @@
 pub mod EndLemmas
 pub mod GatherLemmas
 pub mod RoomLemmas
-pub mod SaverLemmas
+pub mod MachineLemmas

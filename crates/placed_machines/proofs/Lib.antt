@@ -1,5 +1,5 @@
 pub mod FirstLemmas
-pub mod SaverLemmas
+pub mod FirstMachineLemmas
 pub mod MemberLemmas
 pub mod ManyLemmas
 pub mod RunLemmas

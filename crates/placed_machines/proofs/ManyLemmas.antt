@@ -49,9 +49,9 @@ can_save parts program base terms own places k s l can low at is =
 module _ {P : Type 0} (meaning : P → Update) (program : P) (parts : List LocalView) (base : Base) (terms : NewTerms) (places : Places) (serials : List ℕ) where
   -- each of the first machines is that of the law
   abbrev pub StandSoFar : List (AnyMachine P) → Type 0
-  StandSoFar savers =
+  StandSoFar placed =
       (st : Setting) (before : Cluster) → SavesBy st (meaning program) base terms places → AreUnsetParts (with_locking st) parts → HaveAdmitted st serials before →
-      (a : ℕ) (d : AnyMachine P) → a < length savers → IsAnyMachineOf meaning st a (goes_back st st.start st.base a (before.machine a)) (get_or savers a d)
+      (a : ℕ) (d : AnyMachine P) → a < length placed → IsAnyMachineOf meaning st a (goes_back st st.start st.base a (before.machine a)) (get_or placed a d)
 
   -- what a new machine with these terms is
   abbrev pub StandsNew : LocalView → NewTerms → AnyMachine P → Type 0
@@ -60,15 +60,15 @@ module _ {P : Type 0} (meaning : P → Update) (program : P) (parts : List Local
       IsAnyMachineOf meaning st l.me.0 (goes_back st st.start st.base l.me.0 m) x
 
   -- one machine more
-  pub stand_more : (savers : List (AnyMachine P)) (k : ℕ) (l : LocalView) (own : NewTerms) (x : AnyMachine P) → length savers ≡ k → k < length parts → l ≡ get_or parts k l →
-      own ≡ with_serial terms (slice_index serials k) → StandsNew l own x → StandSoFar savers → StandSoFar (savers ++ x ∷ [])
-  stand_more savers k l own x count low at is new so_far = λ st before saves are admitted a d below.
+  pub stand_more : (placed : List (AnyMachine P)) (k : ℕ) (l : LocalView) (own : NewTerms) (x : AnyMachine P) → length placed ≡ k → k < length parts → l ≡ get_or parts k l →
+      own ≡ with_serial terms (slice_index serials k) → StandsNew l own x → StandSoFar placed → StandSoFar (placed ++ x ∷ [])
+  stand_more placed k l own x count low at is new so_far = λ st before saves are admitted a d below.
       elim (cases_lt a k) [
         | inl earlier ↦
-            let inside : a < length savers = subst (λ (n : ℕ). a < n) (sym count) earlier in
-            subst (IsAnyMachineOf meaning st a (goes_back st st.start st.base a (before.machine a))) (sym (get_or-append savers (x ∷ []) d a inside)) (so_far st before saves are admitted a d inside)
+            let inside : a < length placed = subst (λ (n : ℕ). a < n) (sym count) earlier in
+            subst (IsAnyMachineOf meaning st a (goes_back st st.start st.base a (before.machine a))) (sym (get_or-append placed (x ∷ []) d a inside)) (so_far st before saves are admitted a d inside)
         | inr past ↦
-            let last : a ≡ k = omega (arith, length-append savers (x ∷ []), count, below) in
+            let last : a ≡ k = omega (arith, length-append placed (x ∷ []), count, below) in
             let part = unset_at (with_locking st) parts k l are low at in
             let machine : k < st.machines = subst (λ (n : ℕ). k < n) are.count low in
             let serial : (before.machine l.me.0).part.serial ≡ own.serial =
@@ -79,13 +79,13 @@ module _ {P : Type 0} (meaning : P → Update) (program : P) (parts : List Local
             new st (before.machine l.me.0) own_saves (mine_at (with_locking st) parts k l are low at) serial in
             let here : IsAnyMachineOf meaning st k (goes_back st st.start st.base k (before.machine k)) x =
             subst (λ (b : ℕ). IsAnyMachineOf meaning st b (goes_back st st.start st.base b (before.machine b)) x) part.machine stands in
-            subst (λ (b : ℕ). IsAnyMachineOf meaning st b (goes_back st st.start st.base b (before.machine b)) (get_or (savers ++ x ∷ []) b d)) (sym last)
-            (subst (IsAnyMachineOf meaning st k (goes_back st st.start st.base k (before.machine k))) (sym (get_or_push savers x d k count)) here)
+            subst (λ (b : ℕ). IsAnyMachineOf meaning st b (goes_back st st.start st.base b (before.machine b)) (get_or (placed ++ x ∷ []) b d)) (sym last)
+            (subst (IsAnyMachineOf meaning st k (goes_back st st.start st.base k (before.machine k))) (sym (get_or_push placed x d k count)) here)
       ]
 
-  pub all_stand : (savers : List (AnyMachine P)) → length savers ≡ length parts → StandSoFar savers →
-      (st : Setting) (before : Cluster) → SavesBy st (meaning program) base terms places → AreUnsetParts (with_locking st) parts → HaveAdmitted st serials before → StandFirst meaning st before savers
-  all_stand savers many so_far st before saves are admitted =
+  pub all_stand : (placed : List (AnyMachine P)) → length placed ≡ length parts → StandSoFar placed →
+      (st : Setting) (before : Cluster) → SavesBy st (meaning program) base terms places → AreUnsetParts (with_locking st) parts → HaveAdmitted st serials before → StandFirst meaning st before placed
+  all_stand placed many so_far st before saves are admitted =
       record {
         many = many ∙ are.count;
         each = λ a d low. so_far st before saves are admitted a d (subst (λ (n : ℕ). a < n) (sym (many ∙ are.count)) low);

@@ -3,7 +3,7 @@ use Rattle.std.proofs.Common.{◌≡◌, ◌<◌, ℕ, ◌∙◌, All, Option, L
 use Rattle.coordinator.specs.declared.coord_core.steps.Engine.{Engine}
 use Rattle.coordinator.specs.declared.coord_core.steps.Engine.TheVariants.{Chromatic, Locking}
 use Rattle.placed_machines.specs.declared.any_machine.machines.AnyMachine.{AnyMachine}
-use Rattle.placed_machines.specs.declared.any_machine.machines.AnyMachine.TheVariants as saver
+use Rattle.placed_machines.specs.declared.any_machine.machines.AnyMachine.TheVariants as member
 use Rattle.gl_base.specs.declared.numbers.Vertex.{Vertex}
 use Rattle.gl_base.specs.declared.snapshots.Base.{Base}
 use Rattle.graph_core.specs.DataGraph.{size}
@@ -23,7 +23,7 @@ use Rattle.coordinator.specs.snap_update.Snaps.{nothing_since}
 use Rattle.placed_machines.specs.Inner.Making.{AreColoursFor, BeginsWith, GoesBy, IsAnyMachineOf, Machine, RunsBy, Setting, Update, goes_back, takes_locks, with_locking}
 use Rattle.placed_machines.specs.Inner.Members.{CanRunInColours, FitsEngine, IsNewMember, SnapMachineView, in_own_colours}
 use Rattle.placed_machines.proofs.FirstLemmas.{fresh_machine}
-use Rattle.placed_machines.proofs.SaverLemmas.{color_of, first_color_saver, first_machine, first_saver, fresh_in_steps, stands_first, stands_in_colours}
+use Rattle.placed_machines.proofs.FirstMachineLemmas.{color_of, first_chromatic, first_machine, first_locking, fresh_in_steps, stands_first, stands_in_colours}
 
 pub begins_locked : (st : Setting) (base : Base) → BeginsWith st base → BeginsWith (with_locking st) base
 begins_locked st base begins = record { vertices = begins.vertices; edges = begins.edges; number = begins.number }
@@ -68,8 +68,8 @@ module _ (st : Setting) (window : Option ℕ) (terms : NewTerms) (a : ℕ) (n : 
       number = ap (λ (k : Numbers). k.local.me.0) made.numbers_are ∙ ready.machine
 
       pub member_first : (e : Engine) (colours : List ℕ) → RunsBy e colours st → (x : AnyMachine P) → IsNewMember e colours window machine x → IsAnyMachineOf meaning st a (goes_back st st.start st.base a law) x
-      member_first Locking colours by (saver.Locking x) new =
-          let same : first_saver st window terms core goes begins_in made_of meaning program runs machine.kept.room law serial same_window x.reports.room ≡ x = λ i. record {
+      member_first Locking colours by (member.Locking x) new =
+          let same : first_locking st window terms core goes begins_in made_of meaning program runs machine.kept.room law serial same_window x.reports.room ≡ x = λ i. record {
             machine = (machine_same ∙ sym new.machine_is) i;
             counts = sym new.counts i;
             window = sym new.window_is i;
@@ -78,11 +78,11 @@ module _ (st : Setting) (window : Option ℕ) (terms : NewTerms) (a : ℕ) (n : 
           subst (λ (b : ℕ). IsLockingMachineOf meaning st b (goes_back st st.start st.base b law) x) number
           (subst (IsLockingMachineOf meaning st core.numbers.local.me.0 (goes_back st st.start st.base core.numbers.local.me.0 law)) same
           (stands_first st window terms core goes begins_in made_of meaning program runs machine.kept.room law serial same_window x.reports.room by))
-      member_first Locking colours by (saver.Chromatic x) new = absurd new
-      member_first (Chromatic greatest) colours by (saver.Locking x) new = absurd new
-      member_first (Chromatic greatest) colours by (saver.Chromatic x) new =
+      member_first Locking colours by (member.Chromatic x) new = absurd new
+      member_first (Chromatic greatest) colours by (member.Locking x) new = absurd new
+      member_first (Chromatic greatest) colours by (member.Chromatic x) new =
           let coloured = ap (λ (m : SnapMachineView P). in_own_colours m colours) machine_same in
-          let same : first_color_saver st window terms core goes begins_in made_of meaning program runs machine.kept.room law serial same_window x.reports.room colours ≡ x = λ i. record {
+          let same : first_chromatic st window terms core goes begins_in made_of meaning program runs machine.kept.room law serial same_window x.reports.room colours ≡ x = λ i. record {
             machine = (coloured ∙ sym new.machine_is) i;
             counts = sym new.counts i;
             window = sym new.window_is i;

@@ -125,5 +125,5 @@ module _ (g : DataGraph) (program : Update) (owner : ℕ → ℕ) (colours : Lis
   }
 
 -- those that stand first stand for the law's machines as they go back to the base
-pub savers_of : {P : Type 0} (meaning : P → Update) (st : Setting) (view : BaseView) (before : Cluster) (savers : List (AnyMachine P)) → StandFirst meaning (going_on st view.numbers view.number) before savers → AreAnyMachinesOf meaning st view before savers
-savers_of meaning st view before savers first = record { many = first.many; each = first.each }
+pub members_of : {P : Type 0} (meaning : P → Update) (st : Setting) (view : BaseView) (before : Cluster) (placed : List (AnyMachine P)) → StandFirst meaning (going_on st view.numbers view.number) before placed → AreAnyMachinesOf meaning st view before placed
+members_of meaning st view before placed first = record { many = first.many; each = first.each }

@@ -68,9 +68,9 @@ HaveAdmitted st serials before = (a : ℕ) → a < st.machines → (before.machi
 
 -- There are as many machines as the cluster has, and each is the one of the law at its place, as an attempt begins from this base, whatever was
 -- before.
-pub record AreAnyMachinesOf {P : Type 0} (meaning : P → Update) (st : Setting) (view : BaseView) (before : Cluster) (savers : List (AnyMachine P)) : Type 0 where
-  pub many : length savers ≡ st.machines
-  pub each : (a : ℕ) (d : AnyMachine P) → a < st.machines → IsAnyMachineOf meaning (going_on st view.numbers view.number) a ((recovers st view before).machine a) (slice_index_or savers a d)
+pub record AreAnyMachinesOf {P : Type 0} (meaning : P → Update) (st : Setting) (view : BaseView) (before : Cluster) (placed : List (AnyMachine P)) : Type 0 where
+  pub many : length placed ≡ st.machines
+  pub each : (a : ℕ) (d : AnyMachine P) → a < st.machines → IsAnyMachineOf meaning (going_on st view.numbers view.number) a ((recovers st view before).machine a) (slice_index_or placed a d)
 
 -- An attempt of the law that runs so and begins from this base, behind a cluster whose machines have admitted so many scopes, with these
 -- tickets, and with so many bytes of the store in use.

@@ -15,7 +15,7 @@ use update_api::Program;
 
 /// A new machine that holds this part of a graph, begins with the numbers of the base, and is of
 /// the places' engine.
-fn new_saver<P: Program>(
+fn new_locking<P: Program>(
     alloc: Global,
     local: LocalGraph,
     program: P,
@@ -52,15 +52,15 @@ pub fn new_members<P: Program>(
     ensures stand { (st : Setting) (before : Cluster) →
         SavesBy st (P.meaning program) base.now terms places.now →
         AreUnsetParts (with_locking st) parts.items → HaveAdmitted st serials.now before →
-        IfOk result (λ savers. StandFirst P.meaning st before savers.items) }
-    ensures many { IfOk result (λ savers. length savers.items ≡ length parts.items) }
+        IfOk result (λ placed. StandFirst P.meaning st before placed.items) }
+    ensures many { IfOk result (λ placed. length placed.items ≡ length parts.items) }
 {
-    let mut savers = Vec::with_capacity(alloc, parts.len())?;
+    let mut placed = Vec::with_capacity(alloc, parts.len())?;
     for local in parts {
-        let own = with_serial(terms, serials[savers.len()]);
-        savers.push(new_saver(alloc, local, program, base, places, own)?)?;
+        let own = with_serial(terms, serials[placed.len()]);
+        placed.push(new_locking(alloc, local, program, base, places, own)?)?;
     }
-    Ok(savers)
+    Ok(placed)
 }
 
 /// The same terms, where the first scope gets this serial.

@@ -30,15 +30,15 @@ pub fn new_member<P: Program>(
     match places.run.engine {
         Engine::Locking => Ok(AnyMachine::Locking(LockingMachine::new(alloc, machine, window))),
         Engine::Chromatic(_) => {
-            let saver = new_color_saver(alloc, machine, &places.colours, window)?;
-            Ok(AnyMachine::Chromatic(saver))
+            let member = new_chromatic(alloc, machine, &places.colours, window)?;
+            Ok(AnyMachine::Chromatic(member))
         }
     }
 }
 
 /// The machine that goes by its vertices' colours, where `colours` has those of all vertices of the
 /// graph.
-fn new_color_saver<P: Program>(
+fn new_chromatic<P: Program>(
     alloc: Global,
     machine: SnapMachine<P>,
     colours: &[u32],

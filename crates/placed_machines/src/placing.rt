@@ -55,8 +55,8 @@ pub fn machines_of_attempt<P: Program>(
     ensures stand { (st : Setting) (view : BaseView) (before : Cluster) →
         IsRunAt graph.now (P.meaning program) places.now st → IsBaseOf st base.now view →
         HaveAdmitted st serials.now before →
-        IfOk result (λ savers. AreAnyMachinesOf P.meaning st view before savers.items) }
-    ensures many { IfOk result (λ savers. length savers.items ≡ places.now.run.machines) }
+        IfOk result (λ placed. AreAnyMachinesOf P.meaning st view before placed.items) }
+    ensures many { IfOk result (λ placed. length placed.items ≡ places.now.run.machines) }
 {
     let terms = terms_of(graph, base, places.run);
     let parts = parts_of(alloc, graph, places)?;

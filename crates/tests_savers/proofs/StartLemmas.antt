@@ -18,12 +18,12 @@ led_by : (engine : Engine) (colours : List ℕ) (st : Setting) → RunsBy engine
 led_by Locking colours st runs = runs
 led_by (Chromatic greatest) colours st runs = (runs.0, runs.1)
 
-pub start_of : {P : Type 0} (meaning : P → Update) (g : DataGraph) (program : Update) (places : Places) (base : Base) (serials : List ℕ) (savers : List (AnyMachine P)) (store : StoreView) (next left : ℕ) → IsDataGraph g
+pub start_of : {P : Type 0} (meaning : P → Update) (g : DataGraph) (program : Update) (places : Places) (base : Base) (serials : List ℕ) (members : List (AnyMachine P)) (store : StoreView) (next left : ℕ) → IsDataGraph g
     → ArePlacesOf g places.run.machines places → IsBaseFor g base
-    → ((st : Setting) (view : BaseView) (before : Cluster) → IsRunAt g program places st → IsBaseOf st base view → HaveAdmitted st serials before → AreAnyMachinesOf meaning st view before savers)
+    → ((st : Setting) (view : BaseView) (before : Cluster) → IsRunAt g program places st → IsBaseOf st base view → HaveAdmitted st serials before → AreAnyMachinesOf meaning st view before members)
     → store.vertices ≡ size g → store.edges ≡ length g.edges → store.newest ≡ base.number
-    → (st : Setting) × (view : BaseView) × (before : Cluster) × StartsSaving (IsAnyMachineOf meaning) savers places.run.engine store next left st view before
-start_of meaning g program places base serials savers store next left graph are for stand vertices edges newest =
+    → (st : Setting) × (view : BaseView) × (before : Cluster) × StartsSaving (IsAnyMachineOf meaning) members places.run.engine store next left st view before
+start_of meaning g program places base serials members store next left graph are for stand vertices edges newest =
     let of = places.of.items in
     let owner = places.owner.items in
     let at = attempt_begins g program (placed_owner of owner) places.colours.items places.run base serials next left store.store_end graph (owner_low g places.run.machines of owner are.each are.atoms are.owners) are.colours for in

@@ -9,7 +9,7 @@ use gl_base::NoMemory;
 use std::sync::Wait;
 
 /// Makes rounds until the attempt pauses, and says why. Where its end is not saved, it pauses as
-/// soon as nothing is left to do. For want of memory the course stays where it is. No snapshot is
+/// soon as nothing is left to do. For want of memory the trace stays where it is. No snapshot is
 /// acknowledged, and no attempt begins.
 pub fn drive<R: Wait, M: SavingMachine>(
     rt: &R,

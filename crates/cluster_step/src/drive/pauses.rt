@@ -24,7 +24,7 @@ pub enum Pause {
     Spent,
 }
 
-/// The pause, where the course is at one; and whether the end of the call is saved.
+/// The pause, where the trace is at one; and whether the end of the call is saved.
 pub(crate) fn pause_of<M: SavingMachine>(trace: &Trace<M>, saves_end: bool) -> Option<Pause>
     ensures pause { IfSome result (PauseMeaning M.represents trace.now) }
     ensures unsaved { IfSome result (λ pause. pause ≡ Pause.Quiet → saves_end ≡ false) }

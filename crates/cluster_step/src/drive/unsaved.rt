@@ -21,7 +21,7 @@ pub enum UnsavedPause {
 }
 
 /// Makes rounds until the attempt pauses, and says why: it pauses as soon as nothing is left to do.
-/// For want of memory the course stays where it is. No snapshot is acknowledged, and no attempt
+/// For want of memory the trace stays where it is. No snapshot is acknowledged, and no attempt
 /// begins.
 pub fn drive_unsaved<R: Wait, M: SavingMachine>(
     rt: &R,
@@ -39,7 +39,7 @@ pub fn drive_unsaved<R: Wait, M: SavingMachine>(
     unreachable!()
 }
 
-/// The pause, where the course is at one.
+/// The pause, where the trace is at one.
 fn unsaved_pause<M: SavingMachine>(trace: &Trace<M>) -> Option<UnsavedPause>
     ensures { IfSome result (PausesUnsaved M.represents trace.now) }
 {

@@ -20,10 +20,10 @@ use Rattle.engine_runs.specs.attempt_machines.Beginning.{AreAnyMachinesOf, BaseV
 none_more : (n failed : ℕ) → failed ≡ 0 → n + 16 * failed ≡ n
 none_more n failed none = omega (arith, none)
 
-pub start_call : {P : Type 0} (meaning : P → Update) (engine : Engine) (st : Setting) (failures : List FailureAt) (resumed : Bool) (base : Base) (left : ℕ) (savers : List (AnyMachine P)) → IsSnapSetting st → IsEngineOf engine st.engine → IsGoodBase (shared_of st failures) base
-    → AreJobFailures st.machines failures → (resumed ≡ true) ⊎ ((resumed ≡ false) × (base.order.items ≡ [])) → AreAnyMachinesOf meaning st (base_opened resumed base) (cluster_before st (ticket_above base.order.items) left base.length) savers
-    → StartsCall (IsAnyMachineOf meaning) savers engine (store_from st base) (ticket_above base.order.items) left failures st (opening_from st resumed base left)
-start_call meaning engine st failures resumed base left savers setting led good ordered begins are = record {
+pub start_call : {P : Type 0} (meaning : P → Update) (engine : Engine) (st : Setting) (failures : List FailureAt) (resumed : Bool) (base : Base) (left : ℕ) (members : List (AnyMachine P)) → IsSnapSetting st → IsEngineOf engine st.engine → IsGoodBase (shared_of st failures) base
+    → AreJobFailures st.machines failures → (resumed ≡ true) ⊎ ((resumed ≡ false) × (base.order.items ≡ [])) → AreAnyMachinesOf meaning st (base_opened resumed base) (cluster_before st (ticket_above base.order.items) left base.length) members
+    → StartsCall (IsAnyMachineOf meaning) members engine (store_from st base) (ticket_above base.order.items) left failures st (opening_from st resumed base left)
+start_call meaning engine st failures resumed base left members setting led good ordered begins are = record {
   starts = record {
     setting = setting;
     led = led;
@@ -65,11 +65,11 @@ module _ (st : Setting) (o : CallOpening) (events : List law.Event) where
   engine_now : (engine : Engine) → IsEngineOf engine st.engine → IsEngineOf engine (newest_setting st o events).engine
   engine_now engine led = subst (λ (e : settings.Engine). IsEngineOf engine e) (sym (by_setting (λ s. s.engine) (λ s. refl))) led
 
-  pub go_back : {P : Type 0} (meaning : P → Update) (engine : Engine) (old : TraceView (AnyMachine P)) (c : Cluster) (base : BaseView) (store : StoreView) (savers : List (AnyMachine P)) → IsTraceNow (IsAnyMachineOf meaning) old st o events c
+  pub go_back : {P : Type 0} (meaning : P → Update) (engine : Engine) (old : TraceView (AnyMachine P)) (c : Cluster) (base : BaseView) (store : StoreView) (members : List (AnyMachine P)) → IsTraceNow (IsAnyMachineOf meaning) old st o events c
       → IsEngineOf engine st.engine → law.GoesBackTo (newest_setting st o events) c base → c.stopped ≡ false → ((a : ℕ) → a < st.machines → has_reached old.failures c a ≡ true → (c.machine a).failed ≡ true)
-      → AreAnyMachinesOf meaning (newest_setting st o events) base c savers → size st.graph ≡ store.vertices → length st.graph.edges ≡ store.edges → base.number ≡ store.newest
-      → (law.recovers (newest_setting st o events) base c).coordinator.store_end ≡ store.store_end → GoesBackWith (IsAnyMachineOf meaning) old savers engine store st o events c base
-  go_back meaning engine old c base store savers is led goes running failed are vertices edges newest store_end = record {
+      → AreAnyMachinesOf meaning (newest_setting st o events) base c members → size st.graph ≡ store.vertices → length st.graph.edges ≡ store.edges → base.number ≡ store.newest
+      → (law.recovers (newest_setting st o events) base c).coordinator.store_end ≡ store.store_end → GoesBackWith (IsAnyMachineOf meaning) old members engine store st o events c base
+  go_back meaning engine old c base store members is led goes running failed are vertices edges newest store_end = record {
     is = is;
     may = (running, goes);
     follows = λ a low reached. failed a (subst (λ (k : ℕ). a < k) (by_setting (λ s. s.machines) (λ s. refl)) low) reached;

@@ -25,12 +25,12 @@ none_admitted zero (suc a) = refl
 none_admitted (suc n) zero = refl
 none_admitted (suc n) (suc a) = none_admitted n a
 
-module _ {P : Type 0} (meaning : P → Update) (g : DataGraph) (program : Update) (owner : ℕ → ℕ) (colours : List ℕ) (run : SavingRun) (base : Base) (serials : List ℕ) (store : Store) (of_store : IsStoreOf g base store) (savers : List (AnyMachine P))
-    (stand : (st : Setting) (view : BaseView) (before : Cluster) → IsSavingRunOf g program owner colours run st → IsBaseOf st base view → HaveAdmitted st serials before → AreAnyMachinesOf meaning st view before savers) where
+module _ {P : Type 0} (meaning : P → Update) (g : DataGraph) (program : Update) (owner : ℕ → ℕ) (colours : List ℕ) (run : SavingRun) (base : Base) (serials : List ℕ) (store : Store) (of_store : IsStoreOf g base store) (members : List (AnyMachine P))
+    (stand : (st : Setting) (view : BaseView) (before : Cluster) → IsSavingRunOf g program owner colours run st → IsBaseOf st base view → HaveAdmitted st serials before → AreAnyMachinesOf meaning st view before members) where
   -- they begin an attempt of the law
-  pub starts_some : (next left : ℕ) → IsAttemptFrom g program owner colours run base serials next left store.length → (st : Setting) × (view : BaseView) × (before : Cluster) × StartsSaving (IsAnyMachineOf meaning) savers run.engine (store_view store) next left st view before
+  pub starts_some : (next left : ℕ) → IsAttemptFrom g program owner colours run base serials next left store.length → (st : Setting) × (view : BaseView) × (before : Cluster) × StartsSaving (IsAnyMachineOf meaning) members run.engine (store_view store) next left st view before
   starts_some next left is =
-      let are : AreAnyMachinesOf meaning is.st is.view is.before savers = stand is.st is.view is.before is.runs is.of_base is.admitted in (
+      let are : AreAnyMachinesOf meaning is.st is.view is.before members = stand is.st is.view is.before is.runs is.of_base is.admitted in (
         is.st,
         is.view,
         is.before,
@@ -72,12 +72,12 @@ module _ {P : Type 0} (meaning : P → Update) (g : DataGraph) (program : Update
         λ i. record { vertices = vertices i; edges = edges i; newest = newest i; store_end = long i }
 
     -- they start the call
-    pub starts_call : StartsCall (IsAnyMachineOf meaning) savers run.engine (store_view store) next left failures st (opening_from st resumed first budget)
+    pub starts_call : StartsCall (IsAnyMachineOf meaning) members run.engine (store_view store) next left failures st (opening_from st resumed first budget)
     starts_call =
-        subst (λ (s : StoreView). StartsCall (IsAnyMachineOf meaning) savers run.engine s next left failures st (opening_from st resumed first budget)) store_is
-        (subst (λ (n : ℕ). StartsCall (IsAnyMachineOf meaning) savers run.engine (store_from st first) n left failures st (opening_from st resumed first budget)) (sym can.next_is)
-        (subst (λ (n : ℕ). StartsCall (IsAnyMachineOf meaning) savers run.engine (store_from st first) (ticket_above kept.items) n failures st (opening_from st resumed first budget)) (sym (all can.few))
-        (start_call meaning run.engine st failures resumed first budget savers runs.setting (led_by run.engine colours st runs.engine) can.good can.ordered can.begins
+        subst (λ (s : StoreView). StartsCall (IsAnyMachineOf meaning) members run.engine s next left failures st (opening_from st resumed first budget)) store_is
+        (subst (λ (n : ℕ). StartsCall (IsAnyMachineOf meaning) members run.engine (store_from st first) n left failures st (opening_from st resumed first budget)) (sym can.next_is)
+        (subst (λ (n : ℕ). StartsCall (IsAnyMachineOf meaning) members run.engine (store_from st first) (ticket_above kept.items) n failures st (opening_from st resumed first budget)) (sym (all can.few))
+        (start_call meaning run.engine st failures resumed first budget members runs.setting (led_by run.engine colours st runs.engine) can.good can.ordered can.begins
         (stand st (base_opened resumed first) (cluster_before st (ticket_above kept.items) budget base.length) runs view_of admitted))))
 
 -- what is opened

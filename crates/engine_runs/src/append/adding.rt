@@ -22,7 +22,7 @@ use store::snap_journal::Journal;
 /// Puts the record of the snapshot that is due into the journal, with the restarts that the store
 /// lacks, and acknowledges the snapshot in the course only once the journal has it. Between them
 /// nothing can fail. `Full` comes where the snapshot may not be acknowledged since the store takes
-/// no snapshot more, or not this one. After each error the course is where it was, and after each
+/// no snapshot more, or not this one. After each error the trace is where it was, and after each
 /// but `DiskFault` the journal is unchanged; after `DiskFault` the store has to be opened again,
 /// and may have the snapshot, which was not acknowledged.
 pub(crate) fn append_due<D: Disk, M: SavingMachine>(

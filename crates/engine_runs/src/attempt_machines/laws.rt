@@ -15,13 +15,13 @@ use update_api::Program;
 /// resumed or not, with whichever engine.
 pub fn machines_start_calls<P: Program>()
     ensures { (engine : Engine) (st : Setting) (failures : List FailureAt) (resumed : Bool)
-        (base : Base) (left : ℕ) (savers : List (AnyMachine P)) →
+        (base : Base) (left : ℕ) (members : List (AnyMachine P)) →
         IsSnapSetting st → IsEngineOf engine st.engine → IsGoodBase (shared_of st failures) base →
         AreJobFailures st.machines failures → (resumed ≡ true) ⊎
         ((resumed ≡ false) × (base.order.items ≡ [])) →
         AreAnyMachinesOf P.meaning st (base_opened resumed base)
-        (cluster_before st (ticket_above base.order.items) left base.length) savers →
-        StartsCall (IsAnyMachineOf P.meaning) savers engine (store_from st base)
+        (cluster_before st (ticket_above base.order.items) left base.length) members →
+        StartsCall (IsAnyMachineOf P.meaning) members engine (store_from st base)
         (ticket_above base.order.items) left failures st (opening_from st resumed base left) }
 {}
 
@@ -31,16 +31,16 @@ pub fn machines_start_calls<P: Program>()
 pub fn machines_go_back<P: Program>()
     ensures back { (engine : Engine) (old : TraceView (AnyMachine P)) (st : Setting)
         (o : CallOpening) (events : List Event) (c : Cluster) (base : BaseView) (store : StoreView)
-        (savers : List (AnyMachine P)) →
+        (members : List (AnyMachine P)) →
         IsTraceNow (IsAnyMachineOf P.meaning) old st o events c → IsEngineOf engine st.engine →
         GoesBackTo (newest_setting st o events) c base → c.stopped ≡ false →
         ((a : ℕ) → a < st.machines → has_reached old.failures c a ≡ true →
         (c.machine a).failed ≡ true) →
-        AreAnyMachinesOf P.meaning (newest_setting st o events) base c savers →
+        AreAnyMachinesOf P.meaning (newest_setting st o events) base c members →
         size st.graph ≡ store.vertices → length st.graph.edges ≡ store.edges →
         base.number ≡ store.newest →
         (recovers (newest_setting st o events) base c).coordinator.store_end ≡ store.store_end →
-        GoesBackWith (IsAnyMachineOf P.meaning) old savers engine store st o events c base }
+        GoesBackWith (IsAnyMachineOf P.meaning) old members engine store st o events c base }
     ensures runs { (g : DataGraph) (program : Update) (owner : ℕ →
         ℕ) (colours : List ℕ) (run : SavingRun) (st : Setting)
         (o : CallOpening) (events : List Event) →

@@ -7,13 +7,13 @@ use placed_machines::any_machine::AnyMachine;
 use update_api::Program;
 
 /// The parts of the machine, which are in order.
-pub(crate) fn core_of<P: Program>(saver: &AnyMachine<P>) -> &Core
-    ensures parts { result.now ≡ core_held saver.now }
+pub(crate) fn core_of<P: Program>(member: &AnyMachine<P>) -> &Core
+    ensures parts { result.now ≡ core_held member.now }
     ensures orderly { IsOrderly result.now }
     ensures places { KnowsPlaces result.now }
 {
-    match saver {
-        AnyMachine::Locking(saver) => saver.machine().core(),
-        AnyMachine::Chromatic(saver) => saver.machine().core(),
+    match member {
+        AnyMachine::Locking(member) => member.machine().core(),
+        AnyMachine::Chromatic(member) => member.machine().core(),
     }
 }

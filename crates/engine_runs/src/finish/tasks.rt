@@ -38,16 +38,16 @@ fn first_task<P: Program>(trace: &Trace<AnyMachine<P>>) -> Option<Vertex>
 }
 
 /// A vertex that is a task of the machine; `None` exactly where none is.
-fn task_of<P: Program>(saver: &AnyMachine<P>) -> Option<Vertex>
+fn task_of<P: Program>(member: &AnyMachine<P>) -> Option<Vertex>
     ensures some { IfSome result (λ v.
-        OfEach (IsAnyMachineOf P.meaning) saver.now (λ st a m. m.part.task v.0 ≡ true)) }
+        OfEach (IsAnyMachineOf P.meaning) member.now (λ st a m. m.part.task v.0 ≡ true)) }
     ensures own { IfSome result (λ v.
-        OfEach (IsAnyMachineOf P.meaning) saver.now (λ st a m. (v.0 < size st.graph) ×
+        OfEach (IsAnyMachineOf P.meaning) member.now (λ st a m. (v.0 < size st.graph) ×
         (st.owner v.0 ≡ a))) }
-    ensures none { IfNone result (OfEach (IsAnyMachineOf P.meaning) saver.now (λ st a m. (u : ℕ) →
+    ensures none { IfNone result (OfEach (IsAnyMachineOf P.meaning) member.now (λ st a m. (u : ℕ) →
         m.part.task u ≡ false)) }
 {
-    let core = core_of(saver);
+    let core = core_of(member);
     let place = core.numbers.tasks.some_task()?;
     Some(core.by_place[place.0 as usize])
 }

@@ -21,8 +21,8 @@ snap_apart x = record { core = x.core; kept = x.kept; program = x.program }
 abbrev pub counts_apart : CountsView → CountsView
 counts_apart w = record w { held = None }
 
-abbrev pub saver_apart : {P : Type 0} → ChromaticMachineView P → LockingMachineView P
-saver_apart x = record { machine = snap_apart x.machine; counts = counts_apart x.counts; window = x.window; reports = x.reports }
+abbrev pub member_apart : {P : Type 0} → ChromaticMachineView P → LockingMachineView P
+member_apart x = record { machine = snap_apart x.machine; counts = counts_apart x.counts; window = x.window; reports = x.reports }
 
 abbrev pub part_apart : Part → Part
 part_apart part = record part { colour = 0; closed = true }
@@ -50,7 +50,7 @@ saved_here st a part right =
     }
 
 module _ {P : Type 0} (meaning : P → Update) (st : Setting) (a : ℕ) (m : Machine) (x : ChromaticMachineView P) where
-  pub apart : IsChromaticMachineOf meaning st a m x → IsLockingMachineOf meaning (with_locking st) a (machine_apart m) (saver_apart x)
+  pub apart : IsChromaticMachineOf meaning st a m x → IsLockingMachineOf meaning (with_locking st) a (machine_apart m) (member_apart x)
   apart is =
       record {
         here = is.here.part.part;
@@ -77,7 +77,7 @@ module _ {P : Type 0} (meaning : P → Update) (st : Setting) (a : ℕ) (m : Mac
       }
 
   pub joined : IsSetting st → st.machines < 65536 → GoesByColours st.engine x.machine.core.by_place.items x.machine.colours → m.part.colour ≡ x.machine.colour → m.part.closed ≡ x.machine.closed → ((v : ℕ) → m.part.queue v ≡ []) → m.held ≡ x.counts.held
-      → IsLockingMachineOf meaning (with_locking st) a (machine_apart m) (saver_apart x) → IsChromaticMachineOf meaning st a m x
+      → IsLockingMachineOf meaning (with_locking st) a (machine_apart m) (member_apart x) → IsChromaticMachineOf meaning st a m x
   joined setting few engine colour closed free held is =
       record {
         here = record { is = setting; part = record { part = is.here; engine = engine }; program = is.program };
@@ -111,13 +111,13 @@ module _ {P : Type 0} (meaning : P → Update) (st : Setting) (a : ℕ) (m : Mac
 
 -- a machine that has gone on in its step, or to another
 pub gone_on : {P : Type 0} (meaning : P → Update) (st : Setting) (a : ℕ) (m new : Machine) (x now : ChromaticMachineView P) → IsChromaticMachineOf meaning st a m x → IsSameColorSnap x.machine now.machine
-    → new.part.colour ≡ now.machine.colour → new.part.closed ≡ now.machine.closed → new.part.queue ≡ m.part.queue → new.held ≡ now.counts.held → IsLockingMachineOf meaning (with_locking st) a (machine_apart new) (saver_apart now) → IsChromaticMachineOf meaning st a new now
+    → new.part.colour ≡ now.machine.colour → new.part.closed ≡ now.machine.closed → new.part.queue ≡ m.part.queue → new.held ≡ now.counts.held → IsLockingMachineOf meaning (with_locking st) a (machine_apart new) (member_apart now) → IsChromaticMachineOf meaning st a new now
 gone_on meaning st a m new x now is same colour closed queue held there =
     joined meaning st a new now is.here.is is.few (same.settings st is.here.part).engine colour closed (λ v. ap (λ f. f v) queue ∙ is.free v) held there
 
 -- in the same step, holding the same wave
 pub kept_on : {P : Type 0} (meaning : P → Update) (st : Setting) (a : ℕ) (m new : Machine) (x now : ChromaticMachineView P) → IsChromaticMachineOf meaning st a m x → IsInSameStep x.machine now.machine
-    → new.part.colour ≡ m.part.colour → new.part.closed ≡ m.part.closed → new.part.queue ≡ m.part.queue → new.held ≡ m.held → now.counts.held ≡ x.counts.held → IsLockingMachineOf meaning (with_locking st) a (machine_apart new) (saver_apart now) → IsChromaticMachineOf meaning st a new now
+    → new.part.colour ≡ m.part.colour → new.part.closed ≡ m.part.closed → new.part.queue ≡ m.part.queue → new.held ≡ m.held → now.counts.held ≡ x.counts.held → IsLockingMachineOf meaning (with_locking st) a (machine_apart new) (member_apart now) → IsChromaticMachineOf meaning st a new now
 kept_on meaning st a m new x now is same colour closed queue held counted there =
     gone_on meaning st a m new x now is same.same (colour ∙ colour_is meaning st a m x is ∙ sym same.colour) (closed ∙ closed_is meaning st a m x is ∙ sym same.closed) queue (held ∙ is.counts.held ∙ sym counted) there
 
@@ -135,7 +135,7 @@ module _ {P : Type 0} (x : ColorSnapView P) (st : Setting) (here : IsColorSnapPa
 
 -- ---- where nothing has changed for the law
 
-pub stands_apart : {P : Type 0} (meaning : P → Update) (x now : ChromaticMachineView P) → IsInSameStep x.machine now.machine → now.counts.held ≡ x.counts.held → ((st : Setting) → IsColorSnapPart st x.machine → StandsStill (IsLockingMachineOf meaning) (saver_apart x) (saver_apart now))
+pub stands_apart : {P : Type 0} (meaning : P → Update) (x now : ChromaticMachineView P) → IsInSameStep x.machine now.machine → now.counts.held ≡ x.counts.held → ((st : Setting) → IsColorSnapPart st x.machine → StandsStill (IsLockingMachineOf meaning) (member_apart x) (member_apart now))
     → StandsStill (IsChromaticMachineOf meaning) x now
 stands_apart meaning x now same held still st a m snap is =
     kept_on meaning st a m m x now is same refl refl refl refl held

@@ -33,7 +33,7 @@ use Rattle.snapshot_machines.specs.locking.Asking.{with_asking_in}
 use Rattle.placed_machines.specs.chromatic.Prompting.{CanTellCounts, HasPrompted, HasSlack, HasWantedInSteps}
 use Rattle.placed_machines.specs.chromatic.Machines.{ChromaticMachineView, ColorSnapView, IsChromaticMachineOf, IsColorSnapPart, Machine, ReportsView, Setting, part_of_steps}
 use Rattle.placed_machines.proofs.chromatic.AdmitLemmas.{admit_here, admit_there, busy, can_not_admit, may_now}
-use Rattle.placed_machines.proofs.chromatic.ApartLemmas.{apart, coloured, kept_on, machine_apart, part_in, saver_apart, settings_apart, snap_apart, snap_setting_apart}
+use Rattle.placed_machines.proofs.chromatic.ApartLemmas.{apart, coloured, kept_on, machine_apart, part_in, member_apart, settings_apart, snap_apart, snap_setting_apart}
 use Rattle.placed_machines.proofs.chromatic.PromptLemmas.{prompt_none, room_is}
 use Rattle.placed_machines.proofs.chromatic.WorkLemmas.{bare, base_same, more_told, rekept_step}
 
@@ -186,10 +186,10 @@ module _ {P : Type 0} (meaning : P → Update) (x : ChromaticMachineView P) (ord
       run_stands =
           let there = apart meaning st a m x is in
           let locking = snap_setting_apart st snap in
-          let worked = at_once_standing meaning (saver_apart x) (snap_apart now) reports orderly v ticket (made_apart st is.here.part) run logged local step.same.program (settings_apart x.machine st is.here.part now step.same) told (with_locking st) a (machine_apart m) locking there
+          let worked = at_once_standing meaning (member_apart x) (snap_apart now) reports orderly v ticket (made_apart st is.here.part) run logged local step.same.program (settings_apart x.machine st is.here.part now step.same) told (with_locking st) a (machine_apart m) locking there
           may_m.admit.vertex may_m.admit.owned may_m.is_new.flight in
           kept_on meaning st a m new x behind is behind_step refl refl refl refl (ap (λ (y : ChromaticMachineView P). y.counts.held) asked)
-          (asked_standing meaning (with_locking st) a (worked_at_once (with_locking st) a v.0 ticket (machine_apart m)) (saver_apart working) worked (saver_apart behind) (ap saver_apart asked))
+          (asked_standing meaning (with_locking st) a (worked_at_once (with_locking st) a v.0 ticket (machine_apart m)) (member_apart working) worked (member_apart behind) (ap member_apart asked))
 
       can_tell : HasSlack x → CanTellCounts st behind
       can_tell slack =

@@ -17,7 +17,7 @@ use Rattle.snapshot_machines.specs.wave_counts.Counts.{CountsView}
 use Rattle.wire.specs.declared.wire_msgs.messages.Message.TheVariants as sent
 use Rattle.placed_machines.specs.chromatic.Prompting.{CanTellCounts, CanTellCountsNow, HasPrompted, HasSlack, HasWantedInSteps}
 use Rattle.placed_machines.specs.chromatic.Machines.{AreToldReports, ChromaticMachineView, ColorSnapView, IsChromaticMachineOf, IsColorSnapPart, Machine, ReportsView, Setting, part_of_steps}
-use Rattle.placed_machines.proofs.chromatic.ApartLemmas.{apart, coloured, gone_on, kept_on, machine_apart, part_apart, part_in, saver_apart, settings_apart, snap_apart, snap_setting_apart}
+use Rattle.placed_machines.proofs.chromatic.ApartLemmas.{apart, coloured, gone_on, kept_on, machine_apart, part_apart, part_in, member_apart, settings_apart, snap_apart, snap_setting_apart}
 use Rattle.placed_machines.proofs.chromatic.WorkLemmas.{core_part, more_told, rekept_step, reports_stand}
 
 -- behind a call that puts nothing out for machines, the counts can be told
@@ -40,7 +40,7 @@ module _ {P : Type 0} (meaning : P → Update) (x : ChromaticMachineView P) (now
     begin_stands st a m snap is =
         reports_stand meaning (record x { machine = now }) reports told st a (takes_call st a (Begin k) m) snap
         (kept_on meaning st a m (takes_call st a (Begin k) m) x (record x { machine = now }) is step refl refl refl refl refl
-        (begun_standing meaning (saver_apart x) (snap_apart now) k (begins_apart st is.here.part) same rest step.same.program (settings_apart x.machine st is.here.part now step.same) (with_locking st) a (machine_apart m) (snap_setting_apart st snap)
+        (begun_standing meaning (member_apart x) (snap_apart now) k (begins_apart st is.here.part) same rest step.same.program (settings_apart x.machine st is.here.part now step.same) (with_locking st) a (machine_apart m) (snap_setting_apart st snap)
         (apart meaning st a m x is)))
 
     pub heard_begin : (last : ChromaticMachineView P) → HasSlack x → HasPrompted meaning behind last → HasHeard (IsChromaticMachineOf meaning) x (sent.Begin k) last
@@ -58,11 +58,11 @@ module _ {P : Type 0} (meaning : P → Update) (x : ChromaticMachineView P) (now
     committed_stands : (st : Setting) (a : ℕ) (m : Machine) → IsSnapSetting st → IsChromaticMachineOf meaning st a m x → IsChromaticMachineOf meaning st a (asks st (commits k m)) wants
     committed_stands st a m snap is =
         let locking = snap_setting_apart st snap in
-        let there = committed_standing meaning (saver_apart x) (snap_apart now) k kept fewer (core_part x.machine now step st is.here.part part) step.same.program (settings_apart x.machine st is.here.part now step.same) reports told (with_locking st) a (machine_apart m)
+        let there = committed_standing meaning (member_apart x) (snap_apart now) k kept fewer (core_part x.machine now step st is.here.part part) step.same.program (settings_apart x.machine st is.here.part now step.same) reports told (with_locking st) a (machine_apart m)
         (apart meaning st a m x is) in
         kept_on meaning st a m (asks st (commits k m)) x wants is
         (subst (λ (y : ChromaticMachineView P). IsInSameStep x.machine y.machine) (sym asked) (rekept_step x.machine now _ step)) refl refl refl refl (ap (λ (y : ChromaticMachineView P). y.counts.held) asked)
-        (asked_standing meaning (with_locking st) a (commits k (machine_apart m)) (saver_apart behind) there (saver_apart wants) (ap saver_apart asked))
+        (asked_standing meaning (with_locking st) a (commits k (machine_apart m)) (member_apart behind) there (member_apart wants) (ap member_apart asked))
 
     pub heard_committed : (last : ChromaticMachineView P) → HasSlack x → HasPrompted meaning wants last → HasHeard (IsChromaticMachineOf meaning) x (sent.Committed k) last
     heard_committed last slack prompts st c a (Committed j) front =

@@ -24,7 +24,7 @@ use Rattle.coordinator.specs.snap_update.Snaps.{IsSameButRoom, own_section, with
 use Rattle.wire.specs.wire_msgs.Views as wire
 use Rattle.placed_machines.specs.chromatic.Prompting.{CanTellCounts, HasPrompted, HasSlack}
 use Rattle.placed_machines.specs.chromatic.Machines.{ChromaticMachineView, ColorSnapView, IsChromaticMachineOf, IsColorSnapPart, Machine, ReportsView, Setting, part_of_steps}
-use Rattle.placed_machines.proofs.chromatic.ApartLemmas.{apart, coloured, kept_on, machine_apart, part_apart, part_in, same_step, saver_apart, settings_apart, snap_apart, snap_setting_apart}
+use Rattle.placed_machines.proofs.chromatic.ApartLemmas.{apart, coloured, kept_on, machine_apart, part_apart, part_in, same_step, member_apart, settings_apart, snap_apart, snap_setting_apart}
 use Rattle.placed_machines.proofs.chromatic.WorkLemmas.{marked_short, more_told, rekept_step, reports_stand}
 
 -- ---- a snapshot update
@@ -51,9 +51,9 @@ module _ {P : Type 0} (meaning : P → Update) (x : ChromaticMachineView P) (now
     abbrev new : Machine
     new = makes_mark st a s v m
 
-    marked_apart : IsLockingMachineOf meaning (with_locking st) a (machine_apart new) (saver_apart (record x { machine = now }))
+    marked_apart : IsLockingMachineOf meaning (with_locking st) a (machine_apart new) (member_apart (record x { machine = now }))
     marked_apart =
-        marked_standing meaning (saver_apart x) (snap_apart now) orderly s (marks st is.here.part) more once plan local step.same.program (settings_apart x.machine st is.here.part now step.same) (with_locking st) a (machine_apart m) (snap_setting_apart st snap)
+        marked_standing meaning (member_apart x) (snap_apart now) orderly s (marks st is.here.part) more once plan local step.same.program (settings_apart x.machine st is.here.part now step.same) (with_locking st) a (machine_apart m) (snap_setting_apart st snap)
         (apart meaning st a m x is)
 
     marked_stands : IsChromaticMachineOf meaning st a new marking
@@ -109,9 +109,9 @@ module _ {P : Type 0} (meaning : P → Update) (x : ChromaticMachineView P) wher
 
     sent_stands : (st : Setting) (a : ℕ) (m : Machine) → IsSnapSetting st → IsChromaticMachineOf meaning st a m x → IsChromaticMachineOf meaning st a (sections m) sent
     sent_stands st a m snap is =
-        let done = section_sent meaning (saver_apart x) now.kept reports (sends st is.here.part may) same told (with_locking st) a (machine_apart m) (snap_setting_apart st snap) (apart meaning st a m x is) in
+        let done = section_sent meaning (member_apart x) now.kept reports (sends st is.here.part may) same told (with_locking st) a (machine_apart m) (snap_setting_apart st snap) (apart meaning st a m x is) in
         kept_on meaning st a m (sections m) x sent is (rekept_step x.machine x.machine now.kept (same_step x.machine)) refl refl refl refl refl
-        (subst (λ (n : Machine). IsLockingMachineOf meaning (with_locking st) a n (saver_apart sent)) (prompt_still (with_locking st) a (machine_apart (sections m)) refl refl) done.1)
+        (subst (λ (n : Machine). IsLockingMachineOf meaning (with_locking st) a n (member_apart sent)) (prompt_still (with_locking st) a (machine_apart (sections m)) refl refl) done.1)
 
     pub section_one : (last : ChromaticMachineView P) → HasSlack x → HasPrompted meaning (record x { machine = now; reports = reports }) last → HasDone (IsChromaticMachineOf meaning) x SectionDeed last
     section_one last slack prompts st a m snap is =

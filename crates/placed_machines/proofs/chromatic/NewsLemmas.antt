@@ -33,7 +33,7 @@ use Rattle.wire.specs.declared.wire_msgs.messages.Done as word
 use Rattle.wire.specs.declared.wire_msgs.messages.Message.TheVariants as sent
 use Rattle.placed_machines.specs.chromatic.Prompting.{HasPrompted, HasSlack}
 use Rattle.placed_machines.specs.chromatic.Machines.{ChromaticMachineView, ColorSnapView, IsChromaticMachineOf, IsColorSnapPart, Machine, ReportsView, Setting, part_of_steps}
-use Rattle.placed_machines.proofs.chromatic.ApartLemmas.{apart, coloured, kept_on, machine_apart, part_apart, part_in, saver_apart, settings_apart, snap_apart, snap_setting_apart}
+use Rattle.placed_machines.proofs.chromatic.ApartLemmas.{apart, coloured, kept_on, machine_apart, part_apart, part_in, member_apart, settings_apart, snap_apart, snap_setting_apart}
 use Rattle.placed_machines.proofs.chromatic.WorkLemmas.{more_told, reports_stand}
 
 -- ---- it can be heard
@@ -119,7 +119,7 @@ module _ {P : Type 0} (meaning : P → Update) (x : ChromaticMachineView P) (now
       let is = front.here in
       reports_stand meaning (record x { machine = now; counts = more }) reports told st a new front.setting
       (kept_on meaning st a m new x (record x { machine = now; counts = more }) is step refl refl refl refl refl
-      (done_standing meaning (saver_apart x) (snap_apart now) done can.not_own (learns_apart st is.here.part) same tasks local step.same.program (settings_apart x.machine st is.here.part now step.same) (with_locking st) a (machine_apart m)
+      (done_standing meaning (member_apart x) (snap_apart now) done can.not_own (learns_apart st is.here.part) same tasks local step.same.program (settings_apart x.machine st is.here.part now step.same) (with_locking st) a (machine_apart m)
       (snap_setting_apart st front.setting) (apart meaning st a m x is) (unmarked_yet st c p a done.scope news front.behind front.going.followed.0 front.first)))
 
   pub received_done : (counts : CountsView) → counts ≡ more → (last : ChromaticMachineView P) → HasSlack x → HasPrompted meaning (record x { machine = now; counts = counts; reports = reports }) last → HasReceived (IsChromaticMachineOf meaning) x p (sent.Done done) last

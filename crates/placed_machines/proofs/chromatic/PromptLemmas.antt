@@ -21,7 +21,7 @@ use Rattle.wire.specs.wire_msgs.Views as wire
 use Rattle.snapshot_machines.specs.locking.Reports.{with_report}
 use Rattle.placed_machines.specs.chromatic.Prompting.{HasPrompted}
 use Rattle.placed_machines.specs.chromatic.Machines.{ChromaticMachineView, ColorSnapView, CountsView, IsChromaticMachineOf, IsColorSnapPart, Machine, ReportsView, Setting, part_of_steps}
-use Rattle.placed_machines.proofs.chromatic.ApartLemmas.{apart, machine_apart, saver_apart}
+use Rattle.placed_machines.proofs.chromatic.ApartLemmas.{apart, machine_apart, member_apart}
 
 -- ---- where no wave is held, or the share isn't done
 
@@ -46,7 +46,7 @@ done_alike engine colour colours chromatic st a m part d n same =
 module _ {P : Type 0} (meaning : P → Update) (x : ChromaticMachineView P) (counted : x.machine.core.numbers.tasks.outside ≡ outside_of x.machine.kept) where
   module _ (st : Setting) (a : ℕ) (m : Machine) (snap : IsSnapSetting st) (is : IsChromaticMachineOf meaning st a m x) where
     pub room_is : has_room st m ≡ is_open x.machine.core.numbers.tasks
-    room_is = locking_room meaning _ a (machine_apart m) (saver_apart x) (apart meaning st a m x is) counted
+    room_is = locking_room meaning _ a (machine_apart m) (member_apart x) (apart meaning st a m x is) counted
 
     pub done_is : (done : Bool) → HasShareDone x.machine done → is_done st.engine st a m ≡ done
     done_is done has =

@@ -17,24 +17,24 @@ use Rattle.snapshot_machines.specs.wave_counts.Counts.{CountsView, one_more}
 use Rattle.wire.specs.wire_msgs.Views.{message_view}
 use Rattle.wire.specs.declared.wire_msgs.messages.Message as message
 use Rattle.placed_machines.specs.chromatic.Machines.{ChromaticMachineView, ColorSnapView, IsChromaticMachineOf}
-use Rattle.placed_machines.proofs.chromatic.ApartLemmas.{apart, counts_apart, kept_on, machine_apart, same_step, saver_apart, settings_apart, snap_apart, snap_setting_apart, stands_apart}
+use Rattle.placed_machines.proofs.chromatic.ApartLemmas.{apart, counts_apart, kept_on, machine_apart, same_step, member_apart, settings_apart, snap_apart, snap_setting_apart, stands_apart}
 
 module _ {P : Type 0} (meaning : P → Update) (x : ChromaticMachineView P) where
   -- ---- reports
 
   pub reporting : (b : Bool) → b ≡ has_report x.reports → OfEach (IsChromaticMachineOf meaning) x (λ st a m. (b ≡ true) ↔ HasNext m.out)
-  reporting b same st a m snap is = reporting_apart meaning (saver_apart x) (machine_apart m) (with_locking st) a (apart meaning st a m x is) b same
+  reporting b same st a m snap is = reporting_apart meaning (member_apart x) (machine_apart m) (with_locking st) a (apart meaning st a m x is) b same
 
   pub reports_none : None ≡ slice_get x.reports.messages 0 → OfEach (IsChromaticMachineOf meaning) x (λ st a m. m.out ≡ [])
-  reports_none none st a m snap is = no_reports_apart meaning (saver_apart x) none (with_locking st) a (machine_apart m) (snap_setting_apart st snap) (apart meaning st a m x is)
+  reports_none none st a m snap is = no_reports_apart meaning (member_apart x) none (with_locking st) a (machine_apart m) (snap_setting_apart st snap) (apart meaning st a m x is)
 
   pub reports_still : (left : ReportsView) → left ≡ reports_left x.reports.messages x.reports.room → None ≡ slice_get x.reports.messages 0 → StandsStill (IsChromaticMachineOf meaning) x (record x { reports = left })
-  reports_still left is_left none = stands_apart meaning x (record x { reports = left }) (same_step x.machine) refl (λ st here. still_apart meaning (saver_apart x) left is_left none)
+  reports_still left is_left none = stands_apart meaning x (record x { reports = left }) (same_step x.machine) refl (λ st here. still_apart meaning (member_apart x) left is_left none)
 
   pub report_taken : (left : ReportsView) (one : message.Message) → left ≡ reports_left x.reports.messages x.reports.room → Some (message_view one) ≡ slice_get x.reports.messages 0
       → OfEach (IsChromaticMachineOf meaning) x (IsReporting (IsChromaticMachineOf meaning) one (record x { reports = left }))
   report_taken left one is_left first st a m snap is =
-      let there = taken_apart meaning (saver_apart x) left one is_left first (with_locking st) a (machine_apart m) (snap_setting_apart st snap) (apart meaning st a m x is) in
+      let there = taken_apart meaning (member_apart x) left one is_left first (with_locking st) a (machine_apart m) (snap_setting_apart st snap) (apart meaning st a m x is) in
       record {
         report = there.report;
         behind = there.behind;
@@ -75,17 +75,17 @@ module _ {P : Type 0} (meaning : P → Update) (x : ChromaticMachineView P) wher
 
   module _ (to : MachineNo) where
     pub message_waits : (b : Bool) → b ≡ has_waiting (outbox_to x.machine.core.out (peer.Machine to)) → OfEach (IsChromaticMachineOf meaning) x (λ st a m. (b ≡ true) ↔ HasFirst (m.part.out to.0))
-    message_waits b same st a m snap is = waits_apart meaning (saver_apart x) to b same (with_locking st) a (machine_apart m) (snap_setting_apart st snap) (apart meaning st a m x is)
+    message_waits b same st a m snap is = waits_apart meaning (member_apart x) to b same (with_locking st) a (machine_apart m) (snap_setting_apart st snap) (apart meaning st a m x is)
 
     pub messages_none : None ≡ slice_get (waiting_for x.machine.core.out (peer.Machine to)) 0 → OfEach (IsChromaticMachineOf meaning) x (λ st a m. m.part.out to.0 ≡ [])
-    messages_none none st a m snap is = none_apart meaning (saver_apart x) to none (with_locking st) a (machine_apart m) (snap_setting_apart st snap) (apart meaning st a m x is)
+    messages_none none st a m snap is = none_apart meaning (member_apart x) to none (with_locking st) a (machine_apart m) (snap_setting_apart st snap) (apart meaning st a m x is)
 
     module _ (now : ColorSnapView P) (core : now.core ≡ record x.machine.core { out = with_outbox x.machine.core.out (peer.Machine to) (without_first (outbox_to x.machine.core.out (peer.Machine to))) }) (kept : now.kept ≡ x.machine.kept)
         (step : IsInSameStep x.machine now) where
       pub message_now : (counts : CountsView) (one : message.Message) → counts ≡ record x.counts { sent = one_more x.counts.sent } → Some (message_view one) ≡ slice_get (waiting_for x.machine.core.out (peer.Machine to)) 0
           → OfEach (IsChromaticMachineOf meaning) x (SendsItsFirst (IsChromaticMachineOf meaning) to.0 one (record x { machine = now; counts = counts }))
       message_now counts one counted first st a m snap is =
-          let there = now_apart meaning (saver_apart x) to (snap_apart now) core kept step.same.program (counts_apart counts) one (settings_apart x.machine st is.here.part now step.same) (ap counts_apart counted) first (with_locking st) a (machine_apart m)
+          let there = now_apart meaning (member_apart x) to (snap_apart now) core kept step.same.program (counts_apart counts) one (settings_apart x.machine st is.here.part now step.same) (ap counts_apart counted) first (with_locking st) a (machine_apart m)
           (snap_setting_apart st snap) (apart meaning st a m x is) in
           record {
             behind = there.behind;
@@ -94,4 +94,4 @@ module _ {P : Type 0} (meaning : P → Update) (x : ChromaticMachineView P) wher
           }
 
       pub message_back : None ≡ slice_get (waiting_for x.machine.core.out (peer.Machine to)) 0 → StandsStill (IsChromaticMachineOf meaning) x (record x { machine = now })
-      message_back none = stands_apart meaning x (record x { machine = now }) step refl (λ st here. back_apart meaning (saver_apart x) to (snap_apart now) core kept step.same.program none)
+      message_back none = stands_apart meaning x (record x { machine = now }) step refl (λ st here. back_apart meaning (member_apart x) to (snap_apart now) core kept step.same.program none)

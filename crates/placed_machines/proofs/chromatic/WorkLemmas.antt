@@ -31,7 +31,7 @@ use Rattle.snapshot_machines.specs.wave_counts.Counts.{waiting_in}
 use Rattle.snapshot_machines.specs.locking.Asking.{asked_in, has_to_ask_in, with_asking_in, with_wish}
 use Rattle.placed_machines.specs.chromatic.Prompting.{CanTellCounts, HasPrompted, HasSlack, HasWantedInSteps}
 use Rattle.placed_machines.specs.chromatic.Machines.{AreToldReports, ChromaticMachineView, ColorSnapView, IsChromaticMachineOf, IsColorSnapPart, Machine, ReportsView, Setting, part_of_steps}
-use Rattle.placed_machines.proofs.chromatic.ApartLemmas.{apart, coloured, kept_on, machine_apart, part_in, saver_apart, settings_apart, snap_apart, snap_setting_apart, stands_apart}
+use Rattle.placed_machines.proofs.chromatic.ApartLemmas.{apart, coloured, kept_on, machine_apart, part_in, member_apart, settings_apart, snap_apart, snap_setting_apart, stands_apart}
 use Rattle.placed_machines.proofs.chromatic.PromptLemmas.{slack_told}
 
 -- ---- no outbox gets more than one message
@@ -149,9 +149,9 @@ module _ {P : Type 0} (meaning : P → Update) (x : ChromaticMachineView P) (now
     made_stands =
         let there = apart meaning st a m x is in
         let locking = snap_setting_apart st snap in
-        let worked = worked_standing meaning (saver_apart x) (snap_apart now) reports orderly s ticket (made st is.here.part) run logged local step.same.program (settings_apart x.machine st is.here.part now step.same) told (with_locking st) a (machine_apart m) locking there in
+        let worked = worked_standing meaning (member_apart x) (snap_apart now) reports orderly s ticket (made st is.here.part) run logged local step.same.program (settings_apart x.machine st is.here.part now step.same) told (with_locking st) a (machine_apart m) locking there in
         kept_on meaning st a m new x behind is behind_step refl refl refl refl (ap (λ (y : ChromaticMachineView P). y.counts.held) asked)
-        (asked_standing meaning (with_locking st) a (works_on (with_locking st) a s v entry (machine_apart m)) (saver_apart working) worked (saver_apart behind) (ap saver_apart asked))
+        (asked_standing meaning (with_locking st) a (works_on (with_locking st) a s v entry (machine_apart m)) (member_apart working) worked (member_apart behind) (ap member_apart asked))
 
     flight_is : m.part.flight s ≡ Some v
     flight_is = ap (λ (p : Part). p.flight s) is.part.rest ∙ has.may.flight
@@ -192,7 +192,7 @@ module _ {P : Type 0} (meaning : P → Update) (x : ChromaticMachineView P) wher
       → ((v : ℕ) → place_at now.core.numbers.local v ≡ place_at x.machine.core.numbers.local v) → reports.messages ≡ x.reports.messages → StandsStill (IsChromaticMachineOf meaning) x (record x { machine = now; reports = reports })
   room_stands now reports step part same tasks places told =
       stands_apart meaning x (record x { machine = now; reports = reports }) step refl
-      (λ st here. roomier_stands meaning (saver_apart x) (snap_apart now) reports told (core_part x.machine now step st here part) same tasks places step.same.number step.same.program (settings_apart x.machine st here now step.same))
+      (λ st here. roomier_stands meaning (member_apart x) (snap_apart now) reports told (core_part x.machine now step st here part) same tasks places step.same.number step.same.program (settings_apart x.machine st here now step.same))
 
   pub reports_stand : (reports : ReportsView) → reports.messages ≡ x.reports.messages → StandsStill (IsChromaticMachineOf meaning) x (record x { reports = reports })
   reports_stand reports told st a m snap is =

@@ -64,6 +64,6 @@ pub record CanAllSave (parts : List LocalView) (program : Update) (base : Base) 
   pub unset : AreUnsetParts (with_locking st) parts
 
 -- each machine is the one of the law at its place that has gone back to the numbers with which the run begins
-pub record StandFirst {P : Type 0} (meaning : P → Update) (st : Setting) (before : Cluster) (savers : List (AnyMachine P)) : Type 0 where
-  pub many : length savers ≡ st.machines
-  pub each : (a : ℕ) (d : AnyMachine P) → a < st.machines → IsAnyMachineOf meaning st a (goes_back st st.start st.base a (before.machine a)) (slice_index_or savers a d)
+pub record StandFirst {P : Type 0} (meaning : P → Update) (st : Setting) (before : Cluster) (placed : List (AnyMachine P)) : Type 0 where
+  pub many : length placed ≡ st.machines
+  pub each : (a : ℕ) (d : AnyMachine P) → a < st.machines → IsAnyMachineOf meaning st a (goes_back st st.start st.base a (before.machine a)) (slice_index_or placed a d)

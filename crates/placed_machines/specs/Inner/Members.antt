@@ -7,7 +7,7 @@ use Rattle.std.specs.Prelude.{All, List, Option, [], length, true, ℕ, ◌<◌,
 use Rattle.coordinator.specs.declared.coord_core.steps.Engine.{Engine}
 use Rattle.coordinator.specs.declared.coord_core.steps.Engine.TheVariants.{Chromatic, Locking}
 use Rattle.placed_machines.specs.declared.any_machine.machines.AnyMachine.{AnyMachine}
-use Rattle.placed_machines.specs.declared.any_machine.machines.AnyMachine.TheVariants as saver
+use Rattle.placed_machines.specs.declared.any_machine.machines.AnyMachine.TheVariants as member
 use Rattle.placement.specs.places.Colours.{colours_by_place}
 use Rattle.update_api.specs.Updates.{Update}
 use Rattle.snapshot_machines.specs.wave_counts.Counts.{none_counted}
@@ -49,7 +49,7 @@ pub record IsNewChromaticMachine {P : Type 0} (m : ColorSnapView P) (window : Op
 
 -- as the engine wants it
 abbrev pub IsNewMember : {P : Type 0} → Engine → List ℕ → Option ℕ → SnapMachineView P → AnyMachine P → Type 0
-IsNewMember Locking colours window m (saver.Locking x) = IsNewLockingMachine m window x
-IsNewMember Locking colours window m (saver.Chromatic x) = ⊥
-IsNewMember (Chromatic greatest) colours window m (saver.Locking x) = ⊥
-IsNewMember (Chromatic greatest) colours window m (saver.Chromatic x) = IsNewChromaticMachine (in_own_colours m colours) window x
+IsNewMember Locking colours window m (member.Locking x) = IsNewLockingMachine m window x
+IsNewMember Locking colours window m (member.Chromatic x) = ⊥
+IsNewMember (Chromatic greatest) colours window m (member.Locking x) = ⊥
+IsNewMember (Chromatic greatest) colours window m (member.Chromatic x) = IsNewChromaticMachine (in_own_colours m colours) window x

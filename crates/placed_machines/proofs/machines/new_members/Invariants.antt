@@ -5,6 +5,6 @@ use Rattle.placed_machines.proofs.machines.new_members.Given as goal
 abbrev pub invariant-loop-local : goal.invariant-loop-local
 invariant-loop-local g l =
     record {
-      count : length l.savers.items ≡ length l.yielded;
-      stand : StandSoFar g.P.Program.meaning l.program l.fn.parts.items l.base l.terms l.places l.serials l.savers.items;
+      count : length l.placed.items ≡ length l.yielded;
+      stand : StandSoFar g.P.Program.meaning l.program l.fn.parts.items l.base l.terms l.places l.serials l.placed.items;
     }

@@ -2,7 +2,7 @@ use Rattle.std.proofs.Common.{◌≡◌, ◌∙◌, length, sym}
 use Rattle.std.proofs.lemmas.Result.{IfOk-weaker}
 use Rattle.placed_machines.specs.Beginning.{AreAnyMachinesOf, placed_owner}
 use Rattle.placed_machines.specs.Inner.Making.{StandFirst, with_locking}
-use Rattle.placed_machines.proofs.RunLemmas.{can_all_save, onward, placed_locked, runs_on, savers_of, saves_by, some_run}
+use Rattle.placed_machines.proofs.RunLemmas.{can_all_save, onward, placed_locked, runs_on, members_of, saves_by, some_run}
 use Rattle.placed_machines.proofs.placing.machines_of_attempt.Goals as goal
 
 pub new_members-requires-clause-can : goal.new_members-requires-clause-can
@@ -42,8 +42,8 @@ returns-clause-stand g c = λ st view before runs of admitted.
     let goes = c.terms_of-terms.ensures.goes on program owner places.colours.items from in
     let saves = saves_by graph program owner base places terms locks on from goes in
     let unset = c.in_ok-parts.ensures (with_locking on) (placed_locked graph program owner base places terms locks on from goes) in
-    IfOk-weaker c.new_members.result (λ savers. StandFirst meaning on before savers.items) (λ savers. AreAnyMachinesOf meaning st view before savers.items)
-    (λ savers first. savers_of meaning st view before savers.items first)
+    IfOk-weaker c.new_members.result (λ placed. StandFirst meaning on before placed.items) (λ placed. AreAnyMachinesOf meaning st view before placed.items)
+    (λ placed first. members_of meaning st view before placed.items first)
     (c.new_members.ensures.stand on before saves unset admitted)
 
 pub returns-clause-many : goal.returns-clause-many
@@ -52,6 +52,6 @@ returns-clause-many g c =
     let places = c.args.places.now in
     let are = c.requires.places in
     let some = some_run c.args.graph.now program places.of.items places.owner.items places.colours.items places.run c.args.base.now c.terms_of-terms.ensures.graph are.each are.atoms are.owners c.requires.base in
-    IfOk-weaker c.new_members.result (λ savers. length savers.items ≡ length c.in_ok-parts.parts.items) (λ savers. length savers.items ≡ places.run.machines)
-    (λ savers many. many ∙ (c.in_ok-parts.ensures some.0 some.1.placed).count ∙ some.1.placed.machines)
+    IfOk-weaker c.new_members.result (λ placed. length placed.items ≡ length c.in_ok-parts.parts.items) (λ placed. length placed.items ≡ places.run.machines)
+    (λ placed many. many ∙ (c.in_ok-parts.ensures some.0 some.1.placed).count ∙ some.1.placed.machines)
     c.new_members.ensures.many

@@ -2,7 +2,7 @@
 use Rattle.std.proofs.Common.{◌≡◌, ℕ, ◌<◌, ◌∙◌, ap, length, subst, sym}
 use Rattle.gl_base.specs.declared.numbers.AtomNo.{AtomNo}
 use Rattle.gl_base.specs.declared.scopes.Datum.{Datum}
-use Rattle.engine_runs.proofs.finish.SaverLemmas.{number_in, placed_at}
+use Rattle.engine_runs.proofs.finish.MachineLemmas.{number_in, placed_at}
 use Rattle.engine_runs.specs.finish.Gathered.{IsAnyMachineOf, placed_owner}
 use Rattle.partition.specs.machine_numbers.Views.{datum_here}
 use Rattle.machine_core.specs.declared.machine_parts.cores.Core.{Core}

@@ -2,7 +2,7 @@
 use Rattle.std.proofs.Common.{◌≡◌, ℕ, ◌<◌, arith, false, length, rules}
 use Rattle.cluster_step.proofs.trace.Going.{setting_now}
 use Rattle.cluster_step.specs.trace.Traces.{newest_setting}
-use Rattle.engine_runs.proofs.finish.SaverLemmas.{task_in}
+use Rattle.engine_runs.proofs.finish.MachineLemmas.{task_in}
 use Rattle.engine_runs.specs.finish.Gathered.{InEachTrace, IsAnyMachineOf, OfEach}
 use Rattle.engine_runs.proofs.finish.tasks.first_task.Given as given
 use Rattle.engine_runs.proofs.finish.tasks.first_task.Goals as goal

@@ -5,7 +5,7 @@ use Rattle.placement.proofs.places.PlaceLemmas.{first_places}
 use Rattle.placed_machines.specs.Inner.Making.{IsAnyMachineOf, goes_back, with_locking}
 use Rattle.placed_machines.specs.Inner.Members.{IsNewMember}
 use Rattle.placed_machines.proofs.MemberLemmas.{begins_locked, fits_first, fresh_first, member_first}
-use Rattle.placed_machines.proofs.machines.new_saver.Goals as goal
+use Rattle.placed_machines.proofs.machines.new_locking.Goals as goal
 
 pub first_numbers-requires : goal.first_numbers-requires
 first_numbers-requires g c =

@@ -83,15 +83,15 @@ module _ (st : Setting) (window : Option ℕ) (terms : NewTerms) (m : Core) (goe
       back = goes_back st st.start st.base here law
 
       -- with nothing counted and nothing told
-      abbrev pub first_saver : LockingMachineView P
-      first_saver = record {
+      abbrev pub first_locking : LockingMachineView P
+      first_locking = record {
         machine = first_machine;
         counts = none_counted;
         window = window;
         reports = record { messages = []; room = reports };
       }
 
-      pub stands_first : st.engine ≡ Locking → IsLockingMachineOf meaning st here back first_saver
+      pub stands_first : st.engine ≡ Locking → IsLockingMachineOf meaning st here back first_locking
       stands_first locks = record {
         here = subst (λ (s : Setting). IsPartOf s m) (locked st locks) part_there;
         number = refl;
@@ -107,15 +107,15 @@ module _ (st : Setting) (window : Option ℕ) (terms : NewTerms) (m : Core) (goe
         reports = tt;
       }
 
-      abbrev pub first_color_saver : List ℕ → ChromaticMachineView P
-      first_color_saver colours = record {
+      abbrev pub first_chromatic : List ℕ → ChromaticMachineView P
+      first_chromatic colours = record {
         machine = in_own_colours first_machine colours;
         counts = none_counted;
         window = window;
         reports = record { messages = []; room = reports };
       }
 
-      pub stands_in_colours : terms.machines < 65536 → (colours : List ℕ) (greatest : ℕ) → RunsBy (Chromatic greatest) colours st → IsChromaticMachineOf meaning st here back (first_color_saver colours)
+      pub stands_in_colours : terms.machines < 65536 → (colours : List ℕ) (greatest : ℕ) → RunsBy (Chromatic greatest) colours st → IsChromaticMachineOf meaning st here back (first_chromatic colours)
       stands_in_colours few colours greatest by = record {
         here = color_of colours greatest by;
         few = subst (λ (n : ℕ). n < 65536) (sym goes.machines) few;
