@@ -142,8 +142,8 @@ fn run_on_journal<R: Wait, D: Disk>(
     }
 }
 
-/// Runs a program on the job's graph from an opened store and into it, by the numbers of the job and
-/// its failures, with snapshots as its window asks, and one of the end.
+/// Runs a program on the job's graph from an opened store and into it, by the numbers of the job
+/// and its failures, with snapshots as its window asks, and one of the end.
 fn run_stored_by<R: Wait, D: Disk, P: Program>(
     rt: &R,
     alloc: Global,

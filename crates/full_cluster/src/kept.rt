@@ -83,12 +83,14 @@ impl KeptNumbers {
             OnOk result (HasNumbers st me self.new (updated_full st p me s v.0 lent entry part)) }
         ensures written { (st : Setting) (part : FullPart) (f : ℕ →
             Option ℕ) → IsDividedAs st division.now →
-            HasNumbers st (st.owner v.0) self.old part → IsSeenList seen.now f → AreOfScope st v.0 f →
+            HasNumbers st (st.owner v.0) self.old part →
+            IsSeenList seen.now f → AreOfScope st v.0 f →
             let s = after_full st.graph (P.meaning program.now) (lent_full f part) v.0 in
             OnOk result (HasWritten st s v.0 self.new) }
         ensures woken { (st : Setting) (part : FullPart) (f : ℕ →
             Option ℕ) → IsDividedAs st division.now →
-            HasNumbers st (st.owner v.0) self.old part → IsSeenList seen.now f → AreOfScope st v.0 f →
+            HasNumbers st (st.owner v.0) self.old part →
+            IsSeenList seen.now f → AreOfScope st v.0 f →
             let p = P.meaning program.now in let lent = lent_full f part in
             IfOk result (λ woken. (u : ℕ) →
             full_wakes st.graph p lent v.0 u ≡ is_woken woken (halves_of st.graph v.0) u) }

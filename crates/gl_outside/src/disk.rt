@@ -45,7 +45,8 @@ pub trait Disk {
     /// zeros. Until a sync a crash may leave any bytes in the range and past the old end. Where it
     /// fails, a read may give any bytes there.
     fn write_at(&mut self, at: u64, piece: &[u8]) -> Result<(), Failed>
-        ensures past { IsTrue observable → WritesAt (past self.old) at piece.now (past self.new) result }
+        ensures past { IsTrue observable →
+            WritesAt (past self.old) at piece.now (past self.new) result }
         ensures same { same self.old self.new }
         ensures counts { Counts (faults self.old) (faults self.new) result };
 

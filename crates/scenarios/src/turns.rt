@@ -31,8 +31,8 @@ impl<'a> Turns<'a> {
     }
 }
 
-/// Makes the call of a step so many times, in which one call fails in turn. Returns what the first of
-/// them left, and behind it what a later one left where that differs from what the one before it
+/// Makes the call of a step so many times, in which one call fails in turn. Returns what the first
+/// of them left, and behind it what a later one left where that differs from what the one before it
 /// left.
 pub fn play_turns<'a, R: Wait>(
     rt: &R,

@@ -62,7 +62,8 @@ impl<M: SavingMachine> Board<M> {
         requires table { place.old.seat.table_id ≡ self.now.table.table.shared.table_id }
         requires ticket { ticket < self.now.table.top }
         requires can { CanUpdate M.represents member.old.machine scope }
-        requires free { IsFree M.represents self.now.table.table.shared.key.about.failures.value.items
+        requires free { IsFree M.represents
+            self.now.table.table.shared.key.about.failures.value.items
             self.now.table.table.shared.key.about.done.value.items
             member.old.machine member.old.number }
         requires sits { Sits M.represents member.old place.old.seat.me }
@@ -117,7 +118,8 @@ impl<M: EagerMachine> Board<M> {
         requires ticket { ticket < self.now.table.top }
         requires found { M.finds member.old.machine v }
         requires can { CanBeginAtOnce M.represents member.old.machine v.0 }
-        requires free { IsFree M.represents self.now.table.table.shared.key.about.failures.value.items
+        requires free { IsFree M.represents
+            self.now.table.table.shared.key.about.failures.value.items
             self.now.table.table.shared.key.about.done.value.items
             member.old.machine member.old.number }
         requires sits { Sits M.represents member.old place.old.seat.me }

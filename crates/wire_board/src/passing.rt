@@ -146,7 +146,8 @@ impl<M: SavingMachine> Board<M> {
         ensures same { (member.new.number ≡ member.old.number) ×
             (member.new.peers ≡ member.old.peers) }
         ensures moved { IfOk result (λ how. how ≡ Told.Moved → (told : List MessageView) ×
-            OfEach M.represents member.old.machine (HasToldAll M.represents to.0 told member.new.machine)
+            OfEach M.represents member.old.machine
+            (HasToldAll M.represents to.0 told member.new.machine)
             × OfEach M.represents member.old.machine (λ st a m.
             (m.part.out to.0 ≡ map message_read told) × (m.part.out to.0 ≢ []))) }
         ensures nothing { IfOk result (λ how. how ≡ Told.Nothing →
@@ -186,7 +187,8 @@ impl<M: SavingMachine> Board<M> {
         requires links { (member.old.peers * member.old.peers ≡ self.now.table.many) ×
             (member.old.peers < 2 ^ 16) }
         requires inside { suc member.old.number < member.old.peers }
-        requires free { IsFree M.represents self.now.table.table.shared.key.about.failures.value.items
+        requires free { IsFree M.represents
+            self.now.table.table.shared.key.about.failures.value.items
             self.now.table.table.shared.key.about.done.value.items
             member.old.machine member.old.number }
         requires sits { Sits M.represents member.old place.old.seat.me }
@@ -244,7 +246,8 @@ impl<M: SavingMachine> Board<M> {
         ensures same { (member.new.number ≡ member.old.number) ×
             (member.new.peers ≡ member.old.peers) }
         ensures moved { IfOk result (λ how. how ≡ Told.Moved → (message : Message) ×
-            OfEach M.represents member.old.machine (IsReporting M.represents message member.new.machine)) }
+            OfEach M.represents member.old.machine
+            (IsReporting M.represents message member.new.machine)) }
         ensures nothing { IfOk result (λ how. how ≡ Told.Nothing →
             OfEach M.represents member.old.machine (λ st a m. HasNext m.out → ⊥)) }
         ensures busy { IfOk result (λ how. how ≡ Told.Busy →
@@ -284,7 +287,8 @@ impl<M: SavingMachine> Board<M> {
         requires link { link < self.now.table.many }
         requires sits { Sits M.represents member.now place.old.seat.me }
         ensures table { place.new.seat.table_id ≡ place.old.seat.table_id }
-        ensures taken { result ≡ Laden → HasTakenLink M.represents member.now link place.new.seat.me }
+        ensures taken { result ≡ Laden →
+            HasTakenLink M.represents member.now link place.new.seat.me }
         ensures missed { result ≢ Laden → Sits M.represents member.now place.new.seat.me }
         ensures found { place.new.seat.me.0.found ≡ (word_at link, number_in result) }
     {
@@ -301,7 +305,8 @@ impl<M: SavingMachine> Board<M> {
         requires link { link < self.now.table.many }
         requires sits { Sits M.represents member.now place.old.seat.me }
         ensures table { place.new.seat.table_id ≡ place.old.seat.table_id }
-        ensures taken { result ≡ true → HasTakenLink M.represents member.now link place.new.seat.me }
+        ensures taken { result ≡ true →
+            HasTakenLink M.represents member.now link place.new.seat.me }
         ensures missed { result ≡ false → Sits M.represents member.now place.new.seat.me }
         ensures found { result ≡ false → (word : LinkWord) × (word ≢ Bare) ×
             (place.new.seat.me.0.found ≡ (word_at link, number_in word)) }
@@ -326,7 +331,8 @@ impl<M: SavingMachine> Board<M> {
         requires link { link < self.now.table.many }
         requires sits { Sits M.represents member.now place.old.seat.me }
         ensures table { place.new.seat.table_id ≡ place.old.seat.table_id }
-        ensures taken { result ≡ true → HasTakenLink M.represents member.now link place.new.seat.me }
+        ensures taken { result ≡ true →
+            HasTakenLink M.represents member.now link place.new.seat.me }
         ensures missed { result ≡ false → Sits M.represents member.now place.new.seat.me }
         ensures found { result ≡ false → (word : LinkWord) × (word ≢ Bare) ×
             (place.new.seat.me.0.found ≡ (word_at link, number_in word)) }
@@ -354,7 +360,8 @@ impl<M: SavingMachine> Board<M> {
         requires link { (link < self.now.table.many) × (expected ≢ Out) }
         requires sits { Sits M.represents member.now place.old.seat.me }
         ensures table { place.new.seat.table_id ≡ place.old.seat.table_id }
-        ensures taken { result ≡ expected → HasTakenLink M.represents member.now link place.new.seat.me }
+        ensures taken { result ≡ expected →
+            HasTakenLink M.represents member.now link place.new.seat.me }
         ensures missed { result ≢ expected → Sits M.represents member.now place.new.seat.me }
         ensures found { place.new.seat.me.0.found ≡ (word_at link, number_in result) }
     {

@@ -75,8 +75,10 @@ impl<M: SavingMachine> SnapCluster<M> {
     pub fn apply(&mut self, event: Event) -> Result<(), Refused>
         requires { NamesItsMachines (length self.old.machines.items) event }
         ensures made { OnOk result (TakesPlace M.represents self.old event self.new) }
-        ensures not_now { IsErrOf result Refused.NotNow → CanNotTakePlace M.represents self.old event }
-        ensures no_memory { IsErrOf result Refused.NoMemory → CanTakePlace M.represents self.old event }
+        ensures not_now { IsErrOf result Refused.NotNow →
+            CanNotTakePlace M.represents self.old event }
+        ensures no_memory { IsErrOf result Refused.NoMemory →
+            CanTakePlace M.represents self.old event }
         ensures unchanged { OnErr result (StandsForSameSaving M.represents self.old self.new) }
         ensures machines { length self.new.machines.items ≡ length self.old.machines.items }
         ensures stopped { IsNoStop event → self.new.stopped ≡ self.old.stopped }
@@ -332,7 +334,8 @@ impl<M: SavingMachine> SnapCluster<M> {
     /// Whether word of the coordinator is on the link to the machine.
     pub fn has_call(&self, to: MachineNo) -> bool
         requires { to.0 < length self.now.machines.items }
-        ensures { InEachCluster M.represents self.now (λ st c. IsTrue result ↔ HasNext (c.calls to.0)) }
+        ensures { InEachCluster M.represents self.now (λ st c. IsTrue result ↔
+            HasNext (c.calls to.0)) }
     {
         self.parts.links.has_message(self.parts.lead(), to)
     }
@@ -359,7 +362,8 @@ impl<M: SavingMachine> SnapCluster<M> {
     /// or is on a link.
     pub fn has_word(&self, at: MachineNo) -> bool
         requires { at.0 < length self.now.machines.items }
-        ensures { InEachCluster M.represents self.now (λ st c. (result ≡ false) ↔ HasNoWordAt c at.0) }
+        ensures { InEachCluster M.represents self.now (λ st c. (result ≡ false) ↔
+            HasNoWordAt c at.0) }
     {
         let waits = self.call_waits(at);
         let called = self.has_call(at);

@@ -228,7 +228,8 @@ impl<M: SavingMachine> Parts<M> {
         requires within { at.0 < length self.old.machines.items }
         requires runs { self.old.stopped ≡ false }
         requires awake { slice_index_or self.old.failed.items at.0 false ≡ false }
-        ensures { AnswersEvent M.represents self.old (Event.Local (Local.Admit at)) result self.new }
+        ensures { AnswersEvent M.represents self.old
+            (Event.Local (Local.Admit at)) result self.new }
     {
         self.machines[at.0 as usize].admit()
     }
@@ -238,7 +239,8 @@ impl<M: SavingMachine> Parts<M> {
         requires within { at.0 < length self.old.machines.items }
         requires runs { self.old.stopped ≡ false }
         requires awake { slice_index_or self.old.failed.items at.0 false ≡ false }
-        ensures { AnswersEvent M.represents self.old (Event.Local (Local.Grant at x)) result self.new }
+        ensures { AnswersEvent M.represents self.old
+            (Event.Local (Local.Grant at x)) result self.new }
     {
         self.machines[at.0 as usize].grant(x)
     }
@@ -248,7 +250,8 @@ impl<M: SavingMachine> Parts<M> {
         requires within { scope.home.0 < length self.old.machines.items }
         requires runs { self.old.stopped ≡ false }
         requires awake { slice_index_or self.old.failed.items scope.home.0 false ≡ false }
-        ensures { AnswersEvent M.represents self.old (Event.Local (Local.Mark scope)) result self.new }
+        ensures { AnswersEvent M.represents self.old
+            (Event.Local (Local.Mark scope)) result self.new }
     {
         self.machines[scope.home.0 as usize].mark(scope)
     }
@@ -258,7 +261,8 @@ impl<M: SavingMachine> Parts<M> {
         requires within { at.0 < length self.old.machines.items }
         requires runs { self.old.stopped ≡ false }
         requires awake { slice_index_or self.old.failed.items at.0 false ≡ false }
-        ensures { AnswersEvent M.represents self.old (Event.Local (Local.Section at)) result self.new }
+        ensures { AnswersEvent M.represents self.old
+            (Event.Local (Local.Section at)) result self.new }
     {
         self.machines[at.0 as usize].section()
     }
@@ -538,7 +542,8 @@ pub(crate) fn first_parts<M: SavingMachine>(
     requires newest { store.newest + 1 < 2 ^ 32 }
     requires length { store.length < 2 ^ 32 }
     ensures began { IfOk result (λ p. (st : Setting) (base : BaseView) (before : Cluster) →
-        StartsSaving M.represents machines.items engine (store_view store) next left st base before →
+        StartsSaving M.represents machines.items engine (store_view store)
+        next left st base before →
         IsSavingClusterOf M.represents (going_on st base.numbers base.number) p
         (recovers st base before)) }
     ensures machines { IfOk result (λ p. p.machines.items ≡ machines.items) }

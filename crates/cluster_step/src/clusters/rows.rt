@@ -53,7 +53,8 @@ fn take_row<T: Drop>(
 ) -> Result<Vec<T>, AllocError>
     requires width { width ≤ length (into_iter_items rest.old) }
     requires counted { into_iter_len rest.old ≡ length (into_iter_items rest.old) }
-    ensures whole { IfOk result (λ row. row.items ++ into_iter_items rest.new ≡ into_iter_items rest.old) }
+    ensures whole { IfOk result (λ row.
+        row.items ++ into_iter_items rest.new ≡ into_iter_items rest.old) }
     ensures long { IfOk result (λ row. length row.items ≡ width) }
     ensures counted { into_iter_len rest.new ≡ length (into_iter_items rest.new) }
 {

@@ -34,7 +34,8 @@ pub(crate) fn lacks_no_snapshot<M: SavingMachine>(trace: &Trace<M>) -> bool
 /// the coordinator and a machine.
 fn asks_for_none<M: SavingMachine>(trace: &Trace<M>) -> bool
     ensures { IsTrue result →
-        InEachTrace M.represents trace.now (λ st o events c. 0 < half_window st → AsksForNone st c) }
+        InEachTrace M.represents trace.now (λ st o events c. 0 < half_window st →
+        AsksForNone st c) }
 {
     if !is_settled(trace) {
         return false;

@@ -88,7 +88,8 @@ impl<M: SavingMachine> Trace<M> {
         ensures runs { IfOk result (λ c. c.now.stopped ≡ false) }
         // It is an opening of the law, in each setting in which the machines start.
         ensures opened { IfOk result (λ c. (st : Setting) (o : CallOpening) →
-            StartsCall M.represents machines.items engine (store_view store) next left failures.items st
+            StartsCall M.represents machines.items engine (store_view store)
+            next left failures.items st
             o → OpensCall M.represents c.start c.failures st o) }
         // Nothing has happened yet.
         ensures begun { IfOk result (λ c. (st : Setting) (o : CallOpening) →
@@ -134,7 +135,8 @@ impl<M: SavingMachine> Trace<M> {
     /// is.
     pub fn update_at_once(&mut self, at: MachineNo) -> Result<Vertex, Refused>
         requires { at.0 < length self.old.now.machines.items }
-        ensures made { IfOk result (λ v. HappensAtOnceInCall M.represents self.old at.0 v.0 self.new) }
+        ensures made { IfOk result (λ v.
+            HappensAtOnceInCall M.represents self.old at.0 v.0 self.new) }
         ensures not_now { IsErrOf result Refused.NotNow →
             IsLocalUpdateDisabled M.represents self.old at }
         ensures no_memory { IsErrOf result Refused.NoMemory →

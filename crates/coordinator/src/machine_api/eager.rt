@@ -24,6 +24,7 @@ pub trait EagerMachine: SavingMachine {
     /// Makes the update at once of a vertex that was found, under this ticket.
     fn update_now(&mut self, v: Vertex, ticket: u64) -> Result<(), NoMemory>
         requires { finds self.old v }
-        ensures updated { OnOk result (HasUpdatedAtOnce Self.represents self.old v.0 ticket self.new) }
+        ensures updated { OnOk result
+            (HasUpdatedAtOnce Self.represents self.old v.0 ticket self.new) }
         ensures unchanged { OnErr result (StandsStill Self.represents self.old self.new) };
 }

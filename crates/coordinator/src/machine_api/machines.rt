@@ -27,7 +27,8 @@ pub trait SavingMachine: Drop {
     fn grant(&mut self, x: Vertex) -> Result<(), Refused>
         ensures granted { OnOk result (HasDone represents self.old (Grant x.0) self.new) }
         ensures not_now { IsErrOf result Refused.NotNow → CanNotDo represents self.old (Grant x.0) }
-        ensures no_memory { IsErrOf result Refused.NoMemory → CanDo represents self.old (Grant x.0) }
+        ensures no_memory { IsErrOf result Refused.NoMemory →
+            CanDo represents self.old (Grant x.0) }
         ensures unchanged { OnErr result (StandsStill represents self.old self.new) };
 
     /// An own vertex whose lock may be granted now; `None` exactly where no lock may be.
@@ -53,7 +54,8 @@ pub trait SavingMachine: Drop {
     /// its update. It is logged under the ticket, and the coordinator is asked for a snapshot where
     /// it has to be. Of the vertices that may be admitted the machine looks at one of its choice.
     fn update_at_once(&mut self, ticket: u64) -> Result<Vertex, Refused>
-        ensures updated { IfOk result (λ v. HasUpdatedAtOnce represents self.old v.0 ticket self.new) }
+        ensures updated { IfOk result (λ v.
+            HasUpdatedAtOnce represents self.old v.0 ticket self.new) }
         ensures not_now { IsErrOf result Refused.NotNow → CanNotUpdateAtOnce represents self.old }
         ensures no_memory { IsErrOf result Refused.NoMemory → CanUpdateAtOnce represents self.old }
         ensures unchanged { OnErr result (StandsStill represents self.old self.new) };
@@ -61,8 +63,10 @@ pub trait SavingMachine: Drop {
     /// Makes the snapshot update of a ready scope of this home, whose vertex is pending.
     fn mark(&mut self, scope: ScopeId) -> Result<(), Refused>
         ensures marked { OnOk result (HasDone represents self.old (Mark scope) self.new) }
-        ensures not_now { IsErrOf result Refused.NotNow → CanNotDo represents self.old (Mark scope) }
-        ensures no_memory { IsErrOf result Refused.NoMemory → CanDo represents self.old (Mark scope) }
+        ensures not_now { IsErrOf result Refused.NotNow →
+            CanNotDo represents self.old (Mark scope) }
+        ensures no_memory { IsErrOf result Refused.NoMemory →
+            CanDo represents self.old (Mark scope) }
         ensures unchanged { OnErr result (StandsStill represents self.old self.new) };
 
     /// A ready scope of this home whose update may be made now; `None` exactly where there is none.

@@ -26,7 +26,8 @@ fn fail_where_reached<M: SavingMachine>(trace: &mut Trace<M>, m: MachineNo) -> R
     requires { m.0 < length trace.old.now.machines.items }
     ensures same { IsSameAttempt trace.old trace.new }
     ensures failed { OnOk result
-        (InEachTrace M.represents trace.old (HaveFailedSince M.represents trace.new (λ a. a ≡ m.0))) }
+        (InEachTrace M.represents trace.old (HaveFailedSince M.represents trace.new (λ a.
+        a ≡ m.0))) }
     ensures wanting { OnErr result
         (InEachTrace M.represents trace.old (HaveFailedSince M.represents trace.new (λ a. ⊥))) }
 {

@@ -19,7 +19,8 @@ pub(crate) fn taken_away<M: SavingMachine>(
     order: &[Entry],
 ) -> Result<Vec<Entry>, NoMemory>
     ensures { IfOk result (λ gone.
-        InEachTrace M.represents trace.now (λ st o events c. (to : BaseView) → to.order ≡ order.now →
+        InEachTrace M.represents trace.now (λ st o events c. (to : BaseView) →
+        to.order ≡ order.now →
         GoesBackTo (newest_setting st o events) c to →
         TakesAway (newest_setting st o events) c to gone.items)) }
 {

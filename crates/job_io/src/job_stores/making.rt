@@ -47,7 +47,8 @@ fn make_on<D: Disk>(disk: &mut D, header: &Header) -> Result<(), StoreError>
     ensures made { IsTrue D.observable →
         OnOk result (IsNewStore header.now (D.past disk.old) (D.past disk.new)) }
     ensures fault { IfErr result
-        (IsRefusedBy (IsTrue D.observable) (D.past disk.old) (D.faults disk.old) (D.faults disk.new)) }
+        (IsRefusedBy (IsTrue D.observable) (D.past disk.old)
+        (D.faults disk.old) (D.faults disk.new)) }
     ensures kept { IsTrue D.observable → 0 < length (D.past disk.old).now.seen →
         D.past disk.new ≡ D.past disk.old }
     ensures same { D.same disk.old disk.new }

@@ -49,7 +49,8 @@ impl<P: Program> ChromaticMachine<P> {
     /// is asked for the next one.
     fn hear_committed(&mut self, number: u32) -> Result<(), Returned>
         ensures heard { OnOk result
-            (HasHeard (IsChromaticMachineOf P.meaning) self.old (Message.Committed number) self.new) }
+            (HasHeard (IsChromaticMachineOf P.meaning) self.old
+            (Message.Committed number) self.new) }
         ensures returned { IfErr result (λ back. back.message ≡ Message.Committed number) }
         ensures unchanged { OnErr result
             (StandsStill (IsChromaticMachineOf P.meaning) self.old self.new) }

@@ -60,14 +60,16 @@ impl<P: Program> ChromaticMachine<P> {
 
     /// The updates that it made in this attempt.
     pub(crate) fn updates(&self) -> &[Entry]
-        ensures { OfEach (IsChromaticMachineOf P.meaning) self.now (λ st a m. result.now ≡ m.part.log) }
+        ensures { OfEach (IsChromaticMachineOf P.meaning) self.now (λ st a m.
+            result.now ≡ m.part.log) }
     {
         self.machine.log()
     }
 
     /// How many scopes it has admitted, in earlier attempts too.
     pub(crate) fn admitted(&self) -> u64
-        ensures { OfEach (IsChromaticMachineOf P.meaning) self.now (λ st a m. result ≡ m.part.serial) }
+        ensures { OfEach (IsChromaticMachineOf P.meaning) self.now (λ st a m.
+            result ≡ m.part.serial) }
     {
         self.machine.serial()
     }

@@ -32,9 +32,11 @@ impl<P: Program> ChromaticMachine<P> {
 
     /// Word of an update elsewhere has come, be it a snapshot update or not.
     fn receive_done(&mut self, from: MachineNo, done: Done) -> Result<(), Returned>
-        requires { MayReceiveFirst (IsChromaticMachineOf P.meaning) self.old from.0 (Message.Done done) }
+        requires { MayReceiveFirst (IsChromaticMachineOf P.meaning) self.old
+            from.0 (Message.Done done) }
         ensures received { OnOk result
-            (HasReceived (IsChromaticMachineOf P.meaning) self.old from.0 (Message.Done done) self.new) }
+            (HasReceived (IsChromaticMachineOf P.meaning) self.old from.0
+            (Message.Done done) self.new) }
         ensures returned { IfErr result (λ back. back.message ≡ Message.Done done) }
         ensures unchanged { OnErr result
             (StandsStill (IsChromaticMachineOf P.meaning) self.old self.new) }

@@ -42,7 +42,8 @@ impl<P: Program> ChromaticMachine<P> {
     /// A ready scope of this home whose snapshot update may be made now; `None` exactly where there
     /// is none.
     pub(crate) fn next_mark_here(&self) -> Option<ScopeId>
-        ensures some { IfSome result (λ s. CanDo (IsChromaticMachineOf P.meaning) self.now (Mark s)) }
+        ensures some { IfSome result (λ s.
+            CanDo (IsChromaticMachineOf P.meaning) self.now (Mark s)) }
         ensures none { IfNone result (CanMarkNone (IsChromaticMachineOf P.meaning) self.now) }
     {
         self.machine.next_mark()
@@ -51,7 +52,8 @@ impl<P: Program> ChromaticMachine<P> {
     /// Puts out the section of the snapshot that the machine knows, all of whose vertices have the
     /// mark.
     pub(crate) fn put_section(&mut self) -> Result<(), Refused>
-        ensures sent { OnOk result (HasDone (IsChromaticMachineOf P.meaning) self.old Section self.new) }
+        ensures sent { OnOk result
+            (HasDone (IsChromaticMachineOf P.meaning) self.old Section self.new) }
         ensures not_now { IsErrOf result Refused.NotNow →
             CanNotDo (IsChromaticMachineOf P.meaning) self.old Section }
         ensures no_memory { IsErrOf result Refused.NoMemory →
@@ -77,7 +79,8 @@ impl<P: Program> ChromaticMachine<P> {
 
     /// Whether the section may be put out now.
     pub(crate) fn may_put_section(&mut self) -> bool
-        ensures section { OfEach (IsChromaticMachineOf P.meaning) self.old (λ st a m. IsTrue result ↔
+        ensures section { OfEach (IsChromaticMachineOf P.meaning) self.old (λ st a m.
+            IsTrue result ↔
             MayBeDone st a m Section) }
         ensures unchanged { StandsStill (IsChromaticMachineOf P.meaning) self.old self.new }
     {

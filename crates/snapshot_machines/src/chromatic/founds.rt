@@ -49,7 +49,8 @@ impl<P: Program> ColorSnapMachine<P> {
     pub(crate) fn update_found(&mut self, found: Found, ticket: u64) -> Result<(), NoMemory>
         requires { IsFoundInStep self.old found }
         ensures updated { OnOk result
-            (HasUpdatedByColour (P.meaning self.old.program) self.old self.new found.vertex ticket) }
+            (HasUpdatedByColour (P.meaning self.old.program) self.old
+            self.new found.vertex ticket) }
         ensures run { OnOk result
             (HasRunAtOnce self.old.core.numbers.tasks self.new.core.numbers.tasks) }
         ensures logged { OnOk result

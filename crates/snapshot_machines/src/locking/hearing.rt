@@ -14,9 +14,11 @@ impl<P: Program> LockingMachine<P> {
     /// wave, which it answers at once. For want of memory the message comes back, and so does what
     /// the coordinator doesn't tell.
     pub(crate) fn hear_call(&mut self, message: Message) -> Result<(), Returned>
-        ensures heard { OnOk result (HasHeard (IsLockingMachineOf P.meaning) self.old message self.new) }
+        ensures heard { OnOk result
+            (HasHeard (IsLockingMachineOf P.meaning) self.old message self.new) }
         ensures returned { IfErr result (λ back. back.message ≡ message) }
-        ensures unchanged { OnErr result (StandsStill (IsLockingMachineOf P.meaning) self.old self.new) }
+        ensures unchanged { OnErr result
+            (StandsStill (IsLockingMachineOf P.meaning) self.old self.new) }
     {
         match message {
             Message::Begin { number } => {
@@ -35,7 +37,8 @@ impl<P: Program> LockingMachine<P> {
         ensures heard { OnOk result
             (HasHeard (IsLockingMachineOf P.meaning) self.old (Message.Committed number) self.new) }
         ensures returned { IfErr result (λ back. back.message ≡ Message.Committed number) }
-        ensures unchanged { OnErr result (StandsStill (IsLockingMachineOf P.meaning) self.old self.new) }
+        ensures unchanged { OnErr result
+            (StandsStill (IsLockingMachineOf P.meaning) self.old self.new) }
     {
         if self.reports.reserve().is_err() {
             return Err(Returned {
@@ -52,7 +55,8 @@ impl<P: Program> LockingMachine<P> {
         ensures heard { OnOk result
             (HasHeard (IsLockingMachineOf P.meaning) self.old (Message.Wave wave) self.new) }
         ensures returned { IfErr result (λ back. back.message ≡ Message.Wave wave) }
-        ensures unchanged { OnErr result (StandsStill (IsLockingMachineOf P.meaning) self.old self.new) }
+        ensures unchanged { OnErr result
+            (StandsStill (IsLockingMachineOf P.meaning) self.old self.new) }
     {
         if self.reports.reserve().is_err() {
             return Err(Returned {

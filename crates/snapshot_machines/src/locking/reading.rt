@@ -24,7 +24,8 @@ impl<P: Program> LockingMachine<P> {
             (SendsItsFirst (IsLockingMachineOf P.meaning) to.0 m self.new)) }
         ensures none { IfNone result (OfEach (IsLockingMachineOf P.meaning) self.old (λ st a m.
             m.part.out to.0 ≡ [])) }
-        ensures unchanged { IfNone result (StandsStill (IsLockingMachineOf P.meaning) self.old self.new) }
+        ensures unchanged { IfNone result
+            (StandsStill (IsLockingMachineOf P.meaning) self.old self.new) }
     {
         match self.machine.outbox_take(Peer::Machine(to)) {
             Some(message) => {
@@ -37,7 +38,8 @@ impl<P: Program> LockingMachine<P> {
 
     /// Whether a message waits to be sent to the coordinator.
     pub(crate) fn waits_to_report(&self) -> bool
-        ensures { OfEach (IsLockingMachineOf P.meaning) self.now (λ st a m. IsTrue result ↔ HasNext m.out) }
+        ensures { OfEach (IsLockingMachineOf P.meaning) self.now (λ st a m. IsTrue result ↔
+            HasNext m.out) }
     {
         self.reports.waits()
     }
@@ -46,24 +48,28 @@ impl<P: Program> LockingMachine<P> {
     /// waits.
     pub(crate) fn first_report(&mut self) -> Option<Message>
         ensures taken { IfSome result (λ m.
-            OfEach (IsLockingMachineOf P.meaning) self.old (IsReporting (IsLockingMachineOf P.meaning) m self.new)) }
+            OfEach (IsLockingMachineOf P.meaning) self.old
+            (IsReporting (IsLockingMachineOf P.meaning) m self.new)) }
         ensures none { IfNone result (OfEach (IsLockingMachineOf P.meaning) self.old (λ st a m.
             m.out ≡ [])) }
-        ensures unchanged { IfNone result (StandsStill (IsLockingMachineOf P.meaning) self.old self.new) }
+        ensures unchanged { IfNone result
+            (StandsStill (IsLockingMachineOf P.meaning) self.old self.new) }
     {
         self.reports.take()
     }
 
     /// The updates that it made in this attempt.
     pub(crate) fn updates(&self) -> &[Entry]
-        ensures { OfEach (IsLockingMachineOf P.meaning) self.now (λ st a m. result.now ≡ m.part.log) }
+        ensures { OfEach (IsLockingMachineOf P.meaning) self.now (λ st a m.
+            result.now ≡ m.part.log) }
     {
         &self.machine.core().numbers.log
     }
 
     /// How many scopes it has admitted, in earlier attempts too.
     pub(crate) fn admitted(&self) -> u64
-        ensures { OfEach (IsLockingMachineOf P.meaning) self.now (λ st a m. result ≡ m.part.serial) }
+        ensures { OfEach (IsLockingMachineOf P.meaning) self.now (λ st a m.
+            result ≡ m.part.serial) }
     {
         self.machine.core().pipe.next_id().serial
     }

@@ -21,7 +21,8 @@ impl<P: Program> LockingMachine<P> {
         ensures received { OnOk result
             (HasReceived (IsLockingMachineOf P.meaning) self.old from.0 message self.new) }
         ensures returned { IfErr result (λ back. back.message ≡ message) }
-        ensures unchanged { OnErr result (StandsStill (IsLockingMachineOf P.meaning) self.old self.new) }
+        ensures unchanged { OnErr result
+            (StandsStill (IsLockingMachineOf P.meaning) self.old self.new) }
     {
         match message {
             Message::Ask {
@@ -55,7 +56,8 @@ impl<P: Program> LockingMachine<P> {
             (HasReceived (IsLockingMachineOf P.meaning) self.old from.0
             (Message.Ask scope centre rest) self.new) }
         ensures returned { IfErr result (λ back. back.message ≡ Message.Ask scope centre rest) }
-        ensures unchanged { OnErr result (StandsStill (IsLockingMachineOf P.meaning) self.old self.new) }
+        ensures unchanged { OnErr result
+            (StandsStill (IsLockingMachineOf P.meaning) self.old self.new) }
     {
         let _core = self.machine.core();
         match self.machine.receive_ask(scope, centre, rest) {
@@ -75,8 +77,10 @@ impl<P: Program> LockingMachine<P> {
 
     /// A scope of this home has all its locks. It takes no memory.
     fn receive_ready(&mut self, from: MachineNo, scope: ScopeId)
-        requires { MayReceiveFirst (IsLockingMachineOf P.meaning) self.old from.0 (Message.Ready scope) }
-        ensures { HasReceived (IsLockingMachineOf P.meaning) self.old from.0 (Message.Ready scope) self.new }
+        requires { MayReceiveFirst (IsLockingMachineOf P.meaning) self.old
+            from.0 (Message.Ready scope) }
+        ensures { HasReceived (IsLockingMachineOf P.meaning) self.old from.0
+            (Message.Ready scope) self.new }
     {
         let _core = self.machine.core();
         self.machine.receive_ready(scope);
@@ -85,8 +89,10 @@ impl<P: Program> LockingMachine<P> {
 
     /// Word of an update elsewhere has come, be it a snapshot update or not. It takes no memory.
     fn receive_done(&mut self, from: MachineNo, done: Done)
-        requires { MayReceiveFirst (IsLockingMachineOf P.meaning) self.old from.0 (Message.Done done) }
-        ensures { HasReceived (IsLockingMachineOf P.meaning) self.old from.0 (Message.Done done) self.new }
+        requires { MayReceiveFirst (IsLockingMachineOf P.meaning) self.old
+            from.0 (Message.Done done) }
+        ensures { HasReceived (IsLockingMachineOf P.meaning) self.old from.0
+            (Message.Done done) self.new }
     {
         let _core = self.machine.core();
         self.machine.learn(done);

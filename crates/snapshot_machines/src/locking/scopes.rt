@@ -11,12 +11,14 @@ impl<P: Program> LockingMachine<P> {
     /// A scope of a vertex that is pending, or that is a task where the window has room, sets out
     /// for its locks.
     pub(crate) fn admit_one(&mut self) -> Result<(), Refused>
-        ensures admitted { OnOk result (HasAdmittedSome (IsLockingMachineOf P.meaning) self.old self.new) }
+        ensures admitted { OnOk result
+            (HasAdmittedSome (IsLockingMachineOf P.meaning) self.old self.new) }
         ensures not_now { IsErrOf result Refused.NotNow →
             CanNotAdmit (IsLockingMachineOf P.meaning) self.old }
         ensures no_memory { IsErrOf result Refused.NoMemory →
             CanAdmit (IsLockingMachineOf P.meaning) self.old }
-        ensures unchanged { OnErr result (StandsStill (IsLockingMachineOf P.meaning) self.old self.new) }
+        ensures unchanged { OnErr result
+            (StandsStill (IsLockingMachineOf P.meaning) self.old self.new) }
     {
         let _plans = self.machine.core().numbers.tasks.plans();
         if let Err(refused) = self.machine.admit() {
@@ -33,7 +35,8 @@ impl<P: Program> LockingMachine<P> {
             CanNotDo (IsLockingMachineOf P.meaning) self.old (Grant x.0) }
         ensures no_memory { IsErrOf result Refused.NoMemory →
             CanDo (IsLockingMachineOf P.meaning) self.old (Grant x.0) }
-        ensures unchanged { OnErr result (StandsStill (IsLockingMachineOf P.meaning) self.old self.new) }
+        ensures unchanged { OnErr result
+            (StandsStill (IsLockingMachineOf P.meaning) self.old self.new) }
     {
         if let Err(refused) = self.machine.grant(x) {
             return Err(refused);
@@ -43,7 +46,8 @@ impl<P: Program> LockingMachine<P> {
 
     /// An own vertex whose lock may be granted now; `None` exactly where no lock may be.
     pub(crate) fn next_lock(&mut self) -> Option<Vertex>
-        ensures some { IfSome result (λ x. CanDo (IsLockingMachineOf P.meaning) self.old (Grant x.0)) }
+        ensures some { IfSome result (λ x.
+            CanDo (IsLockingMachineOf P.meaning) self.old (Grant x.0)) }
         ensures none { IfNone result (CanGrantNone (IsLockingMachineOf P.meaning) self.old) }
         ensures unchanged { StandsStill (IsLockingMachineOf P.meaning) self.old self.new }
     {

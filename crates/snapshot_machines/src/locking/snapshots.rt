@@ -17,7 +17,8 @@ impl<P: Program> LockingMachine<P> {
             CanNotDo (IsLockingMachineOf P.meaning) self.old (Mark scope) }
         ensures no_memory { IsErrOf result Refused.NoMemory →
             CanDo (IsLockingMachineOf P.meaning) self.old (Mark scope) }
-        ensures unchanged { OnErr result (StandsStill (IsLockingMachineOf P.meaning) self.old self.new) }
+        ensures unchanged { OnErr result
+            (StandsStill (IsLockingMachineOf P.meaning) self.old self.new) }
     {
         let _core = self.machine.core();
         self.machine.mark(scope)
@@ -35,12 +36,14 @@ impl<P: Program> LockingMachine<P> {
     /// Puts out the section of the snapshot that the machine knows, all of whose vertices have the
     /// mark.
     pub(crate) fn put_section(&mut self) -> Result<(), Refused>
-        ensures sent { OnOk result (HasDone (IsLockingMachineOf P.meaning) self.old Section self.new) }
+        ensures sent { OnOk result
+            (HasDone (IsLockingMachineOf P.meaning) self.old Section self.new) }
         ensures not_now { IsErrOf result Refused.NotNow →
             CanNotDo (IsLockingMachineOf P.meaning) self.old Section }
         ensures no_memory { IsErrOf result Refused.NoMemory →
             CanDo (IsLockingMachineOf P.meaning) self.old Section }
-        ensures unchanged { OnErr result (StandsStill (IsLockingMachineOf P.meaning) self.old self.new) }
+        ensures unchanged { OnErr result
+            (StandsStill (IsLockingMachineOf P.meaning) self.old self.new) }
     {
         if !self.machine.has_section() {
             return Err(Refused::NotNow);

@@ -21,7 +21,8 @@ impl<P: Program> LockingMachine<P> {
             CanNotDo (IsLockingMachineOf P.meaning) self.old (Update scope ticket) }
         ensures no_memory { IsErrOf result Refused.NoMemory →
             CanDo (IsLockingMachineOf P.meaning) self.old (Update scope ticket) }
-        ensures unchanged { OnErr result (StandsStill (IsLockingMachineOf P.meaning) self.old self.new) }
+        ensures unchanged { OnErr result
+            (StandsStill (IsLockingMachineOf P.meaning) self.old self.new) }
     {
         let _core = self.machine.core();
         if !self.machine.can_update(scope) {
@@ -49,7 +50,8 @@ impl<P: Program> LockingMachine<P> {
             CanNotUpdateAtOnce (IsLockingMachineOf P.meaning) self.old }
         ensures no_memory { IsErrOf result Refused.NoMemory →
             CanUpdateAtOnce (IsLockingMachineOf P.meaning) self.old }
-        ensures unchanged { OnErr result (StandsStill (IsLockingMachineOf P.meaning) self.old self.new) }
+        ensures unchanged { OnErr result
+            (StandsStill (IsLockingMachineOf P.meaning) self.old self.new) }
     {
         let _core = self.machine.core();
         if self.reports.reserve().is_err() {

@@ -23,7 +23,8 @@ impl<D: Disk> Journal<D> {
         ensures fits { IfOk result (λ last. IfSome last (FitsHeader self.old.header)) }
         ensures well { IfOk result (λ last. (self.old.failed ≡ false) × (self.new.failed ≡ false)) }
         ensures refused { IfErr result
-            (LastErrorCause (IsTrue D.observable) self.old.failed self.new.failed (D.faults self.old.disk)
+            (LastErrorCause (IsTrue D.observable) self.old.failed self.new.failed
+            (D.faults self.old.disk)
             (D.faults self.new.disk)) }
         ensures past { IsTrue D.observable → D.past self.new.disk ≡ D.past self.old.disk }
         ensures kept { self.new ≡ record self.old {

@@ -19,7 +19,8 @@ pub fn init<D: Disk>(disk: &mut D, header: &Header) -> Result<(), JournalFault>
     ensures images { IsTrue D.observable →
         OnOk result ((image : List ℕ) → images_now (D.past disk.new) image →
         image ≡ store_header header.now ++ 0 ∷ []) }
-    ensures stands { IsTrue D.observable → OnOk result (AllDecodeTo header.now [] (D.past disk.new)) }
+    ensures stands { IsTrue D.observable →
+        OnOk result (AllDecodeTo header.now [] (D.past disk.new)) }
     ensures empty { IsTrue D.observable → OnOk result (length (D.past disk.old).now.seen ≡ 0) }
     ensures fault { IfErr result
         (InitErrorCause (IsTrue D.observable) (length (D.past disk.old).now.seen)
