@@ -19,7 +19,7 @@ MOST_MACHINES = 16
 MOST_ATOMS = 1024
 MOST_OF_A_PATH = 255
 MOST_OF_A_PREFIX = 200
-ALGORITHMS = ("levels", "components", "paths", "colours", "cores")
+ALGORITHMS = ("levels", "components", "paths", "colours", "cores", "pairs")
 WEIGHT_OF_NONE = 1
 
 # A pair of vertex numbers is one integer, which costs a third of the memory of a tuple.

@@ -3,7 +3,7 @@ use Rattle.std.proofs.Common.{◌≡◌, ◌≤◌, ◌+◌, ℕ, suc, true, Lis
 use Rattle.gl_base.specs.declared.entries.Entry.{Entry}
 use Rattle.gl_base.specs.declared.entries.Entry.TheVariants.{Go, Restart}
 use Rattle.gl_base.specs.declared.jobs.Algorithm.{Algorithm}
-use Rattle.gl_base.specs.declared.jobs.Algorithm.TheVariants.{Levels, Components, Paths, Colours, Cores}
+use Rattle.gl_base.specs.declared.jobs.Algorithm.TheVariants.{Levels, Components, Paths, Colours, Cores, Pairs}
 use Rattle.gl_base.specs.declared.numbers.Vertex.{Vertex}
 use Rattle.graph_core.specs.DataGraph.{DataGraph, IsDataGraph}
 use Rattle.seq_run.specs.Orders.{IsValidOrder, all_tasks, tasks_after}
@@ -14,7 +14,7 @@ use Rattle.seq_run.proofs.GoingOn.{updates_from-push, valid_append}
 use Rattle.seq_run.proofs.StepBounds.{levels_bound, components_bound, paths_bound, colours_bound, cores_bound}
 use Rattle.update_api.specs.Updates.{Update, update_of_levels, update_of_paths}
 use Rattle.job_io.specs.job_files.JobTexts.{HasStart}
-use Rattle.engine_cli.specs.Plays.{HasEdgesFor, update_of}
+use Rattle.engine_cli.specs.Plays.{RunsByScopes, update_of}
 use Rattle.engine_cli.proofs.Results.{named}
 
 -- the update of a task may come next
@@ -38,7 +38,7 @@ since-one-more order left made =
     omega (arith, count, pushed)
 
 -- the step bound of an algorithm
-pub bound-of : (algorithm : Algorithm) (source : Option ℕ) (g : DataGraph) (order : List Entry) → IsDataGraph g → HasStart algorithm source g → HasEdgesFor algorithm g
+pub bound-of : (algorithm : Algorithm) (source : Option ℕ) (g : DataGraph) (order : List Entry) → IsDataGraph g → HasStart algorithm source g → RunsByScopes algorithm g
     → IsValidOrder g (update_of algorithm source) order → updates_since_restart order ≤ step_bound g algorithm
 bound-of Levels source g order is start edges valid =
     levels_bound g is start.0 start.3.inside order (subst (λ (p : Update). IsValidOrder g p order) (named update_of_levels g source start.0 start.1 start.2 start.3) valid)
@@ -47,3 +47,4 @@ bound-of Paths source g order is start edges valid =
     paths_bound g is start.0 start.3.inside order (subst (λ (p : Update). IsValidOrder g p order) (named update_of_paths g source start.0 start.1 start.2 start.3) valid)
 bound-of Colours source g order is start edges valid = colours_bound g is order valid
 bound-of Cores source g order is start edges valid = cores_bound g is edges order valid
+bound-of Pairs source g order is start edges valid = absurd edges

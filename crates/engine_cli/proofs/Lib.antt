@@ -21,3 +21,5 @@ pub mod EntriesInside
 pub mod OneGraph
 pub mod OneStore
 pub mod AlikeStores
+pub mod PairEnds
+pub mod PairRuns

@@ -1,5 +1,5 @@
 -- A valid job over valid texts has no fault.
-use Rattle.std.proofs.Common.{◌≡◌, ℕ, ◌<◌, ◌≤◌, ◌+◌, ◌*◌, Bool, false, IsTrue, is_some, List, [], ◌∷◌, ◌++◌, length, get_or, Option, None, Some, IfSome, Result, Ok, Err, refl, sym, ◌∙◌, subst, arith, ⊎_elim}
+use Rattle.std.proofs.Common.{◌≡◌, ℕ, ◌<◌, ◌≤◌, ◌+◌, ◌*◌, Bool, true, false, IsTrue, is_some, List, [], ◌∷◌, ◌++◌, length, get_or, Option, None, Some, IfSome, Result, Ok, Err, refl, sym, ◌∙◌, subst, arith, ⊎_elim}
 use Rattle.gl_base.specs.declared.entries.Entry.{Entry}
 use Rattle.gl_base.specs.declared.entries.Entry.TheVariants.{Go}
 use Rattle.gl_base.specs.declared.jobs.FailureAt.{FailureAt}
@@ -26,9 +26,10 @@ use Rattle.engine_cli.specs.declared.status.Status.TheVariants.{Done, Usage, Bad
 use Rattle.engine_cli.specs.Status.{IsDoneOrNoMemory}
 use Rattle.job_io.specs.job_files.JobTexts.{LacksSource, RefusesEdges, is_weighted, OfJob, OfSaid, OfTexts, RefusesSource, RefusesTexts, DescribeJobGraph, RefusesJob}
 use Rattle.engine_cli.specs.Answer.{IsValid}
-use Rattle.engine_cli.specs.JobRuns.{CallLists, HasEnough, HasNamedMachines, IsEndAlone, MakesRun, RunsSo, RunsWithoutStore, is_resumed, left_at}
+use Rattle.engine_cli.specs.JobRuns.{CallLists, HasEnough, IsEndAlone, MakesRun, RunsSo, RunsUnstored, RunsWithoutStore, is_resumed, left_at}
 use Rattle.engine_cli.specs.JobStores.{IsNotRunFrom, RefusesStore}
-use Rattle.engine_cli.specs.Plays.{IsSpent, update_of}
+use Rattle.engine_cli.specs.Plays.{IsSpent, update_of, writes_neighbours}
+use Rattle.engine_cli.proofs.PairRuns.{by-scopes}
 use Rattle.gl_outside.specs.Disk.{DiskPast}
 use Rattle.job_io.specs.job_stores.JobHeaders.{header_for}
 use Rattle.job_io.specs.job_stores.NewStores.{IfDisksTold}
@@ -152,27 +153,29 @@ no_bad_atoms asked files file fault input atoms says =
 
 -- the run of a job that names no store is one without a store
 without : (told : Bool) (asked : JobVerb) (old : FilesState) (new : List ℕ → DiskPast) (job : JobSayings) (lists : CallLists) (ending : StoredEnd) (vertices edges : List ℕ)
-    → (made : MakesRun told asked old new job lists ending vertices edges) → job.fields.store ≡ None → RunsWithoutStore job made.graph made.cut made.run job.failures
+    → (made : MakesRun told asked old new job lists ending vertices edges) → job.fields.store ≡ None → RunsUnstored (writes_neighbours job.fields.algorithm) job made.graph made.cut made.run
 without told asked old new job lists ending vertices edges made none =
-    let found : RunsWithoutStore job made.graph made.cut made.run job.failures × HasNamedMachines job made.graph made.cut made.run =
-    subst (λ (s : Option (List ℕ)). RunsSo told asked old new job made.graph made.cut made.run s) none made.runs in
-    found.0
+    subst (λ (s : Option (List ℕ)). RunsSo told asked old new job made.graph made.cut made.run s) none made.runs
 
 -- so it ends as such a run does
 ends_alone : (told : Bool) (asked : JobVerb) (old : FilesState) (new : List ℕ → DiskPast) (job : JobSayings) (lists : CallLists) (ending : StoredEnd) (vertices edges : List ℕ)
     → MakesRun told asked old new job lists ending vertices edges → job.fields.store ≡ None → IsEndAlone ending
 ends_alone told asked old new job lists ending vertices edges made none =
-    subst IsEndAlone made.ended (go job.failures (without told asked old new job lists ending vertices edges made none))
+    subst IsEndAlone made.ended (go (writes_neighbours job.fields.algorithm) (without told asked old new job lists ending vertices edges made none))
   where
-    go : (failures : List FailureAt) → RunsWithoutStore job made.graph made.cut made.run failures → IsEndAlone made.run.end
-    go [] runs = runs.ended
-    go (failure ∷ failures) runs = runs.ended
+    by_failures : (failures : List FailureAt) → RunsWithoutStore job made.graph made.cut made.run failures → IsEndAlone made.run.end
+    by_failures [] runs = runs.ended
+    by_failures (failure ∷ failures) runs = runs.ended
+
+    go : (b : Bool) → RunsUnstored b job made.graph made.cut made.run → IsEndAlone made.run.end
+    go false runs = by_failures job.failures runs.0
+    go true runs = runs.ended
 
 -- a budget of at least the step bound for each attempt is not spent
 unspent : (told : Bool) (asked : JobVerb) (old : FilesState) (new : List ℕ → DiskPast) (job : JobSayings) (lists : CallLists) (left : Vertex) (vertices edges : List ℕ)
     → job.fields.store ≡ None → ((g : DataGraph) → DescribeJobGraph job.fields vertices edges g → HasEnough job g) → MakesRun told asked old new job lists (Spent left) vertices edges → ⊥
 unspent told asked old new job lists left vertices edges none enough made =
-    go job.failures refl (without told asked old new job lists (Spent left) vertices edges made none)
+    go (writes_neighbours job.fields.algorithm) refl (without told asked old new job lists (Spent left) vertices edges made none)
   where
     g : DataGraph
     g = made.graph
@@ -186,16 +189,21 @@ unspent told asked old new job lists left vertices edges none enough made =
     next : Entry
     next = Go (record { 0 = 0 }) left 0
 
-    go : (failures : List FailureAt) → job.failures ≡ failures → RunsWithoutStore job g made.cut made.run failures → ⊥
-    go [] none was =
+    by_failures : writes_neighbours job.fields.algorithm ≡ false → (failures : List FailureAt) → job.failures ≡ failures → RunsWithoutStore job g made.cut made.run failures → ⊥
+    by_failures scopes [] none was =
         let ends : StoredEnd → Type 0 = λ e. MatchOption (left_at e) (IsFinished g p order) (IsSpent g p job.fields.budget order) in
         let spent : IsSpent g p job.fields.budget order left = subst ends made.ended was.runs.ended in
         let longer : IsValidOrder g p (order ++ next ∷ []) = one-more g p order left was.runs.play.valid spent.task in
-        let few = bound-of job.fields.algorithm job.fields.source g (order ++ next ∷ []) made.graph_is.graph.graph made.start made.edges_fit longer in
+        let fits = by-scopes job.fields.algorithm g scopes made.edges_fit in
+        let few = bound-of job.fields.algorithm job.fields.source g (order ++ next ∷ []) made.graph_is.graph.graph made.start fits longer in
         let alone : (1 + 0) * step_bound g job.fields.algorithm ≤ job.fields.budget =
         subst (λ (fs : List FailureAt). (1 + length fs) * step_bound g job.fields.algorithm ≤ job.fields.budget) none (enough g made.graph_is) in
         omega (arith, few, spent.spent, alone, since-one-more order left was.runs.play.tickets)
-    go (failure ∷ failures) some was = (was.goes was.placed.0 was.placed.1).enough (enough g made.graph_is) left made.ended
+    by_failures scopes (failure ∷ failures) some was = (was.goes was.placed.0 was.placed.1).enough (enough g made.graph_is) left made.ended
+
+    go : (b : Bool) → writes_neighbours job.fields.algorithm ≡ b → RunsUnstored b job g made.cut made.run → ⊥
+    go false scopes was = by_failures scopes job.failures refl was.0
+    go true writes was = was.enough (enough g made.graph_is) left made.ended
 
 -- a job that names no store names none
 no_store : (name : List ℕ) (store : Option (List ℕ)) → store ≡ None → store ≡ Some name → ⊥

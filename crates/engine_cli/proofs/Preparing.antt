@@ -1,6 +1,6 @@
 -- What running a job says over what was read before.
-use Rattle.std.proofs.Common.{◌≡◌, inl, inr, ℕ, ◌≤◌, Bool, true, false, IsTrue, is_some, List, [], ◌∷◌, Option, None, Some, IfSome, Result, Ok, Err, refl, sym, ap, ◌∙◌, subst, ⊎_elim, arith}
-use Rattle.std.specs.Prelude.{bytes_eq, ◌⊎◌, if◌then◌else◌}
+use Rattle.std.proofs.Common.{◌≡◌, ◌≢◌, inl, inr, ℕ, ◌≤◌, Bool, true, false, IsTrue, is_some, List, [], ◌∷◌, Option, None, Some, IfSome, Result, Ok, Err, refl, sym, ap, ◌∙◌, subst, ⊎_elim, lt-ltb, arith}
+use Rattle.std.specs.Prelude.{bytes_eq, length, nat_lt, ◌⊎◌, if◌then◌else◌}
 use Rattle.std.proofs.lemmas.Slice.Eq.{bytes_eq-Decides}
 use Rattle.graph_atoms.specs.atom_gather.Cuts.{CanBeCut}
 use Rattle.graph_atoms.specs.declared.atom_gather.cuts.Cut.{Cut}
@@ -9,19 +9,22 @@ use Rattle.gl_base.specs.declared.job_faults.JobFault.{JobFault}
 use Rattle.gl_base.specs.declared.job_faults.JobFault.TheVariants.{Missing}
 use Rattle.gl_base.specs.declared.job_faults.Key.TheVariants as key
 use Rattle.gl_base.specs.declared.jobs.Algorithm.{Algorithm}
-use Rattle.gl_base.specs.declared.jobs.Algorithm.TheVariants.{Levels, Components, Paths, Colours, Cores}
+use Rattle.gl_base.specs.declared.jobs.Algorithm.TheVariants.{Levels, Components, Paths, Colours, Cores, Pairs}
 use Rattle.gl_outside.specs.Disk.{DiskPast}
 use Rattle.gl_outside.specs.Faults.{Rose}
 use Rattle.gl_outside.specs.FilesState.{FilesState, Opened}
 use Rattle.gl_outside.specs.Frames.{ChangesSources}
 use Rattle.gl_outside.specs.Inner.Laws.{decide, differs}
-use Rattle.graph_core.specs.DataGraph.{DataGraph}
+use Rattle.gl_base.specs.declared.jobs.FailureAt.{FailureAt}
+use Rattle.graph_core.specs.DataGraph.{DataGraph, IsDataGraph}
+use Rattle.call_laws.specs.whole_calls.Following.{AreJobFailures}
+use Rattle.job_io.specs.job_config.Ranges.{HasNumbers}
 use Rattle.job_io.specs.job_config.Jobs.{JobSayings}
 use Rattle.job_io.specs.job_config.Views.{job_view}
 use Rattle.job_io.specs.job_files.Atoms.{IsCutAt, IsCutOf, OfJobCut}
 use Rattle.job_io.specs.job_files.Inputs.{IsInputFrom, IsRunInput, RefusesEarly}
-use Rattle.job_io.specs.job_files.DoableJobs.{agreeing, clash_of, doable, unless_key}
-use Rattle.job_io.specs.job_files.JobTexts.{SaysJob}
+use Rattle.job_io.specs.job_files.DoableJobs.{agreeing, clash_of, clash_of_pairs, doable, is_chromatic, unless_key}
+use Rattle.job_io.specs.job_files.JobTexts.{HasStart, SaysJob}
 use Rattle.job_io.specs.job_files.NamesRead.{RunOpens, names_of}
 use Rattle.job_io.specs.declared.job_files.inputs.Input.{Input}
 use Rattle.job_io.specs.declared.job_files.inputs.NoInput.{NoInput}
@@ -36,15 +39,16 @@ use Rattle.job_io.specs.declared.job_stores.making.StoreError.TheVariants as no_
 use Rattle.job_io.proofs.job_stores.DisksUsed.{always-told}
 use Rattle.engine_runs.specs.declared.answers.runs.StoredRun.{StoredRun}
 use Rattle.job_io.specs.whole_files.FilesUsed.{OpensInOrder}
-use Rattle.engine_cli.specs.Inner.Prepares.{ChangesInput, IsOfRun, RunInputErrorCause, UsesNamed}
+use Rattle.engine_cli.specs.Inner.Prepares.{CanRun, ChangesInput, IsOfRun, RunInputErrorCause, UsesNamed}
 use Rattle.engine_cli.specs.Inner.Storing.{RunOnStoreErrorCause}
 use Rattle.engine_cli.specs.JobRuns.{RunsOnStore, RunsSo, is_resumed}
 use Rattle.engine_cli.specs.JobStores.{IsNotRunFrom, KeepsAllImages, KeepsGoing, KeepsImages, NamesStore, OfStoredJob, RefusesStore, UsesStore}
 use Rattle.engine_cli.specs.NamesWritten.{order_names}
-use Rattle.engine_cli.specs.Plays.{HasEdgesFor}
+use Rattle.engine_cli.specs.Plays.{HasEdgesFor, writes_neighbours}
 use Rattle.engine_cli.specs.StatusMeanings.{Refuses}
 use Rattle.engine_cli.specs.Status.{IsInputRefusal, IsRefusedInput, status_of_no_input, status_of_no_store}
 use Rattle.engine_cli.proofs.DisksLeft.{leaves-same}
+use Rattle.engine_cli.proofs.PairRuns.{are-pairs, by-scopes}
 use Rattle.engine_cli.proofs.NamesHanded.{hands-no-store, hands-store}
 
 -- ---- what is read tells a cut of the graph
@@ -58,6 +62,24 @@ can-cut input files some is = go input.job.atoms_at input.job.atoms input.cut so
     go (Some prefix) atoms (Told n of) some is = is.0
 
 -- ---- a job that is run names an algorithm for its edges
+
+-- no key was told that does not go with pairs
+pub pairs-agree : (job : JobSayings) → unless_key job (clash_of_pairs job) ≡ Ok job → (job.fields.directed ≡ false) × (job.fields.store ≡ None) × (job.failures ≡ [])
+pairs-agree job agrees = go job.fields.directed (is_chromatic job.fields.engine) job.fields.store job.failures agrees
+  where
+    no_error : {x : JobSayings} → {fault : JobFault} → Err fault ≡ Ok x → ⊥
+    no_error e = cc
+
+    go : (directed chromatic : Bool) (store : Option (List ℕ)) (failures : List FailureAt)
+        → unless_key job (if directed then Some key.Directed else (if chromatic then Some key.Engine else (if is_some store then Some key.Store else (if nat_lt 0 (length failures) then Some key.Failures else None)))) ≡ Ok job
+        → (directed ≡ false) × (store ≡ None) × (failures ≡ [])
+    go true chromatic store failures agrees = absurd (no_error agrees)
+    go false true store failures agrees = absurd (no_error agrees)
+    go false false (Some name) failures agrees = absurd (no_error agrees)
+    go false false None (failure ∷ failures) agrees =
+        let some : nat_lt 0 (length (failure ∷ failures)) ≡ true = lt-ltb 0 (length (failure ∷ failures)) (omega arith) in
+        absurd (no_error (subst (λ (b : Bool). unless_key job (if b then Some key.Failures else None) ≡ Ok job) some agrees))
+    go false false None [] agrees = (refl, refl, refl)
 
 -- no key was told that does not go with the algorithm
 edges-agree : (algorithm : Algorithm) (job : JobSayings) (g : DataGraph) → unless_key job (clash_of algorithm job) ≡ Ok job → g.directed ≡ job.fields.directed → HasEdgesFor algorithm g
@@ -73,10 +95,12 @@ edges-agree Cores job g agrees same = same ∙ none job.fields.directed agrees
     none : (directed : Bool) → unless_key job (if directed then Some key.Directed else None) ≡ Ok job → directed ≡ false
     none false agrees = refl
     none true agrees = absurd (no_error agrees)
+edges-agree Pairs job g agrees same = same ∙ (pairs-agree job agrees).0
 
-pub edges-fit : (asked : JobVerb) (job : JobSayings) (g : DataGraph) → IsOfRun asked → doable asked job ≡ Ok job → g.directed ≡ job.fields.directed → HasEdgesFor job.fields.algorithm g
-edges-fit verb.Run job g run does same = edges-agree job.fields.algorithm job g does same
-edges-fit verb.Resume job g run does same = edges-agree job.fields.algorithm job g (named (is_some job.fields.store) does) same
+-- a job of a verb that runs it names no key that does not go with its algorithm
+agrees-of : (asked : JobVerb) (job : JobSayings) → IsOfRun asked → doable asked job ≡ Ok job → agreeing job ≡ Ok job
+agrees-of verb.Run job run does = does
+agrees-of verb.Resume job run does = named (is_some job.fields.store) does
   where
     no_error : {x : JobSayings} → {fault : JobFault} → Err fault ≡ Ok x → ⊥
     no_error e = cc
@@ -84,8 +108,41 @@ edges-fit verb.Resume job g run does same = edges-agree job.fields.algorithm job
     named : (is : Bool) → (if is then agreeing job else Err (Missing key.Store)) ≡ Ok job → agreeing job ≡ Ok job
     named true does = does
     named false does = absurd (no_error does)
-edges-fit verb.Cut job g run does same = absurd run
-edges-fit verb.Init job g run does same = absurd run
+agrees-of verb.Cut job run does = absurd run
+agrees-of verb.Init job run does = absurd run
+
+-- a job whose store is made is not one of pairs
+pub stored-not-pairs : (job : JobSayings) (name : List ℕ) → job.fields.store ≡ Some name → doable verb.Init job ≡ Ok job → job.fields.algorithm ≢ Pairs
+stored-not-pairs job name named does pairs =
+    let some : is_some job.fields.store ≡ true = ap is_some named in
+    let agrees : agreeing job ≡ Ok job = subst (λ (b : Bool). (if b then agreeing job else Err (Missing key.Store)) ≡ Ok job) some does in
+    let none : job.fields.store ≡ None = (pairs-agree job (subst (λ (a : Algorithm). unless_key job (clash_of a job) ≡ Ok job) pairs agrees)).1 in
+    none_is_some (sym none ∙ named)
+  where
+    none_is_some : {n : List ℕ} → None ≡ Some n → ⊥
+    none_is_some e = cc
+
+pub edges-fit : (asked : JobVerb) (job : JobSayings) (g : DataGraph) → IsOfRun asked → doable asked job ≡ Ok job → g.directed ≡ job.fields.directed → HasEdgesFor job.fields.algorithm g
+edges-fit asked job g run does same = edges-agree job.fields.algorithm job g (agrees-of asked job run does) same
+
+-- a job that was read can be run, by one way or the other
+pub can-run : (asked : JobVerb) (input : Input) → IsOfRun asked → doable asked (job_view input.job) ≡ Ok (job_view input.job) → input.graph.directed ≡ input.job.directed
+    → HasNumbers (job_view input.job).fields → AreJobFailures input.job.machines input.job.failures.items → length input.job.failures.items ≤ 64
+    → IsDataGraph input.graph → HasStart input.job.algorithm input.job.source input.graph → CanBeCut input.graph input.cut → CanRun input
+can-run asked input run does same numbers failures few graph start cut = go (writes_neighbours input.job.algorithm) refl
+  where
+    job : JobSayings
+    job = job_view input.job
+
+    fits : HasEdgesFor input.job.algorithm input.graph
+    fits = edges-fit asked job input.graph run does same
+
+    go : (b : Bool) → writes_neighbours input.job.algorithm ≡ b → CanRun input
+    go false alone = inl (record { numbers = numbers; failures = failures; few = few; graph = graph; start = start; edges_fit = by-scopes input.job.algorithm input.graph alone fits; cut = cut })
+    go true writes =
+        let pairs : input.job.algorithm ≡ Pairs = are-pairs input.job.algorithm writes in
+        let agreed = pairs-agree job (subst (λ (a : Algorithm). unless_key job (clash_of a job) ≡ Ok job) pairs (agrees-of asked job run does)) in
+        inr (record { pairs = pairs; numbers = numbers; store = agreed.1; failures = agreed.2; graph = graph; undirected = same ∙ agreed.0; cut = cut })
 
 -- ---- what is read changes no disk
 

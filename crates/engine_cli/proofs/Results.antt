@@ -3,7 +3,7 @@ use Rattle.std.proofs.Common.{◌≡◌, ◌≢◌, ◌<◌, ℕ, List, get_or, 
 use Rattle.std.proofs.lemmas.List.Elements.{All-get_or, All-from_get_or}
 use Rattle.gl_base.specs.declared.entries.Entry.{Entry}
 use Rattle.gl_base.specs.declared.jobs.Algorithm.{Algorithm}
-use Rattle.gl_base.specs.declared.jobs.Algorithm.TheVariants.{Levels, Components, Paths, Colours, Cores}
+use Rattle.gl_base.specs.declared.jobs.Algorithm.TheVariants.{Levels, Components, Paths, Colours, Cores, Pairs}
 use Rattle.graph_core.specs.Colourings.{IsProperColouring}
 use Rattle.graph_core.specs.Components.{IsComponentLabel}
 use Rattle.graph_core.specs.DataGraph.{DataGraph, DataEdge, IsDataGraph, IsEdge, size}
@@ -17,7 +17,7 @@ use Rattle.seq_run.proofs.Cores.{cores_at_rest}
 use Rattle.seq_run.specs.CoreNumbers.{IsCoreNumber}
 use Rattle.update_api.specs.Updates.{Update, update_of_levels, update_of_paths}
 use Rattle.gl_base.specs.Lists.{AreEach}
-use Rattle.engine_cli.specs.Plays.{AreResults, HasEdgesFor, source_id, update_of}
+use Rattle.engine_cli.specs.Plays.{AreResults, RunsByScopes, source_id, update_of}
 use Rattle.job_io.specs.job_files.JobTexts.{HasStart, IsVertexOf}
 
 -- what holds of each number of the replay holds of the numbers that were kept
@@ -49,7 +49,7 @@ pub named : (f : ℕ → Update) (g : DataGraph) (source : Option ℕ) (start id
 named f g source start id asked there = ap f (ap source_id asked ∙ sym there.is)
 
 pub results-of : (algorithm : Algorithm) (source : Option ℕ) (g : DataGraph) (order : List Entry) (numbers : List ℕ) → IsDataGraph g
-    → HasStart algorithm source g → HasEdgesFor algorithm g → IsValidOrder g (update_of algorithm source) order → AreNumbers (size g) (replay g (update_of algorithm source) order).vertex numbers → IsFinished g (update_of algorithm source) order
+    → HasStart algorithm source g → RunsByScopes algorithm g → IsValidOrder g (update_of algorithm source) order → AreNumbers (size g) (replay g (update_of algorithm source) order).vertex numbers → IsFinished g (update_of algorithm source) order
     → AreResults algorithm source g numbers
 results-of Levels source g order numbers is start edges goes was finished =
     let same = named update_of_levels g source start.0 start.1 start.2 start.3 in
@@ -71,3 +71,4 @@ results-of Colours source g order numbers is start edges goes was finished =
     (was.count, colouring-of g _ numbers is was (colours_at_rest g is order goes finished))
 results-of Cores source g order numbers is start edges goes was finished =
     each-of g _ (IsCoreNumber g) numbers was (cores_at_rest g is edges order goes finished)
+results-of Pairs source g order numbers is start edges goes was finished = absurd edges

@@ -29,7 +29,7 @@ use Rattle.update_api.specs.Updates.{Update}
 use Rattle.engine_cli.specs.Inner.Storing.{IsStoreKept, IsNotGood, IsNotGoneOnFrom, IsStoreRunFrom, RunOnDiskErrorCause, RunOnJournalErrorCause, RunStoredErrorCause, no_store_of_journal, no_store_of_run}
 use Rattle.engine_cli.specs.JobRuns.{AreGoodImages, GoesOnFrom, KeepsStore, RunsOnStore, records_size, shared_by, snapshots_on}
 use Rattle.engine_cli.specs.JobStores.{IsNotRunFrom, IsOtherStore, KeepsGoing, KeepsImages}
-use Rattle.engine_cli.specs.Plays.{AreResults, HasEdgesFor, update_of}
+use Rattle.engine_cli.specs.Plays.{AreResults, RunsByScopes, update_of}
 use Rattle.engine_cli.proofs.Bounds.{bound-of}
 use Rattle.engine_cli.proofs.DisksLeft.{leaves-more, leaves-twice}
 use Rattle.engine_cli.proofs.Results.{results-of}
@@ -57,7 +57,7 @@ good-front shared header front behind image holds =
 
 -- a run that finished has the results of its algorithm
 pub stored-results : (job : JobSayings) (g : DataGraph) (owner : ℕ → ℕ) (count : ℕ) (kept : List Entry) (resumed : Bool) (snapshots : List (List Entry)) (run : StoredRun)
-    → IsDataGraph g → HasStart job.fields.algorithm job.fields.source g → HasEdgesFor job.fields.algorithm g
+    → IsDataGraph g → HasStart job.fields.algorithm job.fields.source g → RunsByScopes job.fields.algorithm g
     → IsStoredRun true (shared_by job g owner) job.fields.machines job.fields.window job.fields.budget count kept resumed snapshots run
     → run.end ≡ end.Finished → AreResults job.fields.algorithm job.fields.source g run.numbers.items
 stored-results job g owner count kept resumed snapshots run is start edges ran finished =
@@ -98,7 +98,7 @@ module _ (job : JobSayings) (g : DataGraph) (cut : Cut) (old mid new : DiskPast)
   program = update_of job.fields.algorithm job.fields.source
 
   -- the run is one on its store
-  pub runs-on-store : (resumed : Bool) (run : StoredRun) → IsDataGraph g → HasStart job.fields.algorithm job.fields.source g → HasEdgesFor job.fields.algorithm g → (resumed ≡ false → length bodies ≡ 0)
+  pub runs-on-store : (resumed : Bool) (run : StoredRun) → IsDataGraph g → HasStart job.fields.algorithm job.fields.source g → RunsByScopes job.fields.algorithm g → (resumed ≡ false → length bodies ≡ 0)
       → IsStoreRunFrom job g cut program header resumed bodies mid new run → RunsOnStore resumed job g cut old new run
   runs-on-store resumed run is start edges fresh from =
       let same : bodies ≡ snapshots_on job g old = sym (stands_are header old.now.seen bodies stands) in

@@ -13,7 +13,7 @@ use Rattle.job_io.specs.job_config.Jobs.{JobSayings}
 use Rattle.placement.specs.plans.Plays.{IsPlacement}
 use Rattle.placement.specs.declared.plans.runs.RunPlan.{RunPlan}
 use Rattle.graph_text.specs.order_text.Orders.{IsEntryOf}
-use Rattle.recovery.specs.Journals.{JournalState, records_size, snapshots_in, stored_in, stored_order}
+use Rattle.recovery.specs.Journals.{JournalState, records_size, stored_in, stored_order}
 use Rattle.store.specs.snap_journal.Journals.{KnowsStore}
 use Rattle.store.specs.declared.snap_journal.faults.JournalFault.{JournalFault}
 use Rattle.store.specs.declared.snap_journal.faults.JournalFault.TheVariants as journal

@@ -18,7 +18,7 @@ use Rattle.engine_runs.specs.declared.answers.runs.StoredEnd.TheVariants as end
 use Rattle.engine_runs.specs.declared.answers.runs.StoredRun.{StoredRun}
 use Rattle.update_api.specs.Updates.{Update}
 use Rattle.engine_cli.specs.JobRuns.{BeginsAgain, BoundsSteps, HasNamedMachines, IsEndAlone, IsRunBy, RunsThroughFailures, Shared, lists_of, plan_for, shared_by}
-use Rattle.engine_cli.specs.Plays.{HasEdgesFor, update_of}
+use Rattle.engine_cli.specs.Plays.{RunsByScopes, update_of}
 use Rattle.engine_cli.proofs.Bounds.{bound-of}
 use Rattle.engine_cli.proofs.Results.{results-of}
 
@@ -48,7 +48,7 @@ end-alone shared budget lists (end.Spent left) ends = tt
 end-alone shared budget lists (end.Full stored bytes) ends = ends
 end-alone shared budget lists end.DiskFault ends = ends
 
-module _ (job : JobSayings) (g : DataGraph) (cut : Cut) (run : StoredRun) (is : IsDataGraph g) (start : HasStart job.fields.algorithm job.fields.source g) (edges : HasEdgesFor job.fields.algorithm g)
+module _ (job : JobSayings) (g : DataGraph) (cut : Cut) (run : StoredRun) (is : IsDataGraph g) (start : HasStart job.fields.algorithm job.fields.source g) (edges : RunsByScopes job.fields.algorithm g)
     (owned : OwnedBy g cut run (update_of job.fields.algorithm job.fields.source) (plan_for job) job.failures) (placed : PlacedSo g cut (plan_for job))
     (never : NeverSpent g run (update_of job.fields.algorithm job.fields.source) (plan_for job) job.failures) where
   abbrev ends-in : (ℕ → ℕ) → StoredEnd → Type 0
@@ -78,7 +78,7 @@ module _ (job : JobSayings) (g : DataGraph) (cut : Cut) (run : StoredRun) (is : 
   }
 
 -- a run of this program by this plan with these failures
-pub through-failures : (job : JobSayings) (g : DataGraph) (cut : Cut) (run : StoredRun) (p : Update) (plan : RunPlan) (failures : List FailureAt) → IsDataGraph g → HasStart job.fields.algorithm job.fields.source g → HasEdgesFor job.fields.algorithm g
+pub through-failures : (job : JobSayings) (g : DataGraph) (cut : Cut) (run : StoredRun) (p : Update) (plan : RunPlan) (failures : List FailureAt) → IsDataGraph g → HasStart job.fields.algorithm job.fields.source g → RunsByScopes job.fields.algorithm g
     → p ≡ update_of job.fields.algorithm job.fields.source → plan ≡ plan_for job → failures ≡ job.failures → OwnedBy g cut run p plan failures → PlacedSo g cut plan → NeverSpent g run p plan failures
     → RunsThroughFailures job g cut run
 through-failures job g cut run p plan failures is start edges program planned ordered owned placed never =

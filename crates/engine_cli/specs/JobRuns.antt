@@ -4,7 +4,9 @@ pub use Rattle.engine_runs.specs.answers.Images.{HoldsGood, orders_behind}
 pub use Rattle.engine_runs.specs.answers.Runs.{IsRunWithFailures, IsStoredRun, Shared, lists_of}
 pub use Rattle.engine_runs.specs.answers.Unstored.{HasRestartsFirst}
 pub use Rattle.engine_runs.specs.Runs.{BoundsSteps, HasRoomForRun, IsRunBy}
-use Rattle.std.specs.Prelude.{◌≡◌, ◌≤◌, ◌+◌, ◌*◌, ◌++◌, ◌∷◌, ℕ, Bool, true, false, List, [], length, sum_by, ⊤, Option, None, Some}
+pub use Rattle.engine_cli.specs.Ends.{IsEndAlone, left_at}
+pub use Rattle.engine_cli.specs.Pairings.{HasEnough, RunsOfPairs}
+use Rattle.std.specs.Prelude.{◌≡◌, ◌≤◌, ◌+◌, ◌++◌, ◌∷◌, ℕ, Bool, true, false, List, [], length, sum_by, Option, None, Some}
 use Rattle.graph_atoms.specs.declared.atom_gather.cuts.Cut.{Cut}
 use Rattle.gl_base.specs.declared.entries.Entry.{Entry}
 use Rattle.gl_base.specs.declared.jobs.FailureAt.{FailureAt}
@@ -25,16 +27,15 @@ use Rattle.job_io.specs.job_stores.JobHeaders.{header_for}
 use Rattle.job_io.specs.job_stores.NewStores.{IfDisksTold}
 use Rattle.seq_run.specs.Orders.{IsFinished, replay}
 use Rattle.seq_run.specs.Runs.{AreNumbers}
-use Rattle.seq_run.specs.StepBound.{step_bound}
 use Rattle.store.specs.store_format.Stores.{DecodesTo}
 use Rattle.store.specs.declared.store_format.header.Header.{Header}
 use Rattle.engine_runs.specs.declared.answers.runs.SnapLine.{SnapLine}
 use Rattle.engine_runs.specs.declared.answers.runs.StoredEnd.{StoredEnd}
-use Rattle.engine_runs.specs.declared.answers.runs.StoredEnd.TheVariants.{DiskFault, Finished, Full, Spent}
+use Rattle.engine_runs.specs.declared.answers.runs.StoredEnd.TheVariants.{Finished, Full, Spent}
 use Rattle.engine_runs.specs.declared.answers.runs.StoredPlan.{StoredPlan}
 use Rattle.engine_runs.specs.declared.answers.runs.StoredRun.{StoredRun}
 use Rattle.engine_cli.specs.declared.ended.Ended.{Ended}
-use Rattle.engine_cli.specs.Plays.{AreResults, CountsByMachine, HasEdgesFor, RunsTo, update_of}
+use Rattle.engine_cli.specs.Plays.{AreResults, CountsByMachine, HasEdgesFor, RunsTo, update_of, writes_neighbours}
 
 -- ---- what a call leaves of its run
 
@@ -59,10 +60,6 @@ lists_of_call ended = record { order = ended.order.items; lost = ended.lost.item
 
 -- ---- what is enough for a run of a job
 
--- the budget has as many updates as the algorithm may need on this graph, for the first attempt and for one behind each failure
-abbrev pub HasEnough : JobSayings → DataGraph → Type 0
-HasEnough job g = (1 + length job.failures) * step_bound g job.fields.algorithm ≤ job.fields.budget
-
 -- how the job is run
 abbrev pub plan_for : JobSayings → RunPlan
 plan_for job = record { machines = job.fields.machines; pipeline = job.fields.pipeline; budget = job.fields.budget }
@@ -81,20 +78,6 @@ abbrev pub HasRoomForJob : JobSayings → DataGraph → List (List ℕ) → Type
 HasRoomForJob job g opened = HasRoomForRun g (plan_with job true job.fields.window) (length job.failures) (length opened) (65 + records_size opened)
 
 -- ---- without a store
-
--- the vertex that is left, if one is
-abbrev pub left_at : StoredEnd → Option Vertex
-left_at Finished = None
-left_at (Spent left) = Some left
-left_at (Full stored bytes) = None
-left_at DiskFault = None
-
--- without a store a run ends as it leaves no task, or as its budget is spent
-abbrev pub IsEndAlone : StoredEnd → Type 0
-IsEndAlone Finished = ⊤
-IsEndAlone (Spent left) = ⊤
-IsEndAlone (Full stored bytes) = ⊥
-IsEndAlone DiskFault = ⊥
 
 -- A run without a store, of a job that orders no failure, on a graph that is cut so. Its updates are counted by machine, no update is lost, no failure fires and no snapshot is taken; and where it left no
 -- task, the numbers are what the algorithm is to find.
@@ -207,10 +190,15 @@ is_resumed verb.Resume = true
 is_resumed verb.Cut = false
 is_resumed verb.Init = false
 
+-- a run of the job without a store, whose updates write neighbours too or not
+abbrev pub RunsUnstored : Bool → JobSayings → DataGraph → Cut → StoredRun → Type 0
+RunsUnstored false job g cut run = RunsWithoutStore job g cut run job.failures × HasNamedMachines job g cut run
+RunsUnstored true job g cut run = RunsOfPairs job g cut run
+
 -- The run is one of the job on this graph, which is cut so, where the job names this store, if any, and `told` says whether it is told what disks hold. `new` is what
 -- disks hold as it has ended.
 abbrev pub RunsSo : Bool → JobVerb → FilesState → (List ℕ → DiskPast) → JobSayings → DataGraph → Cut → StoredRun → Option (List ℕ) → Type 0
-RunsSo told asked old new job g cut run None = RunsWithoutStore job g cut run job.failures × HasNamedMachines job g cut run
+RunsSo told asked old new job g cut run None = RunsUnstored (writes_neighbours job.fields.algorithm) job g cut run
 RunsSo told asked old new job g cut run (Some name) = IfDisksTold told old (RunsOnStore (is_resumed asked) job g cut (old.pasts name) (new name) run)
 
 -- The two texts tell a graph, which is cut as the job says and the files of its atoms tell, this run of the job was made on it and ended so, and its lists are those that the call leaves.

@@ -5,6 +5,8 @@ pub mod NamesWritten
 pub mod CutJobs
 pub mod StoreJobs
 pub mod JobStores
+pub mod Ends
+pub mod Pairings
 pub mod JobRuns
 pub mod Plays
 pub mod Notes

@@ -8,7 +8,7 @@ ghost use Rattle.job_io.specs.job_files.JobTexts.{HasStart};
 ghost use Rattle.call_laws.specs.whole_calls.Following.{AreJobFailures};
 ghost use Rattle.engine_cli.specs.JobRuns.{HasNamedMachines, IsEndAlone, RunsWithoutStore};
 ghost use Rattle.engine_cli.specs.Inner.Prepares.{IsPrintable};
-ghost use Rattle.engine_cli.specs.Plays.{HasEdgesFor};
+ghost use Rattle.engine_cli.specs.Plays.{RunsByScopes};
 
 use crate::playing::{plan_of, program_of};
 use engine_runs::answers::StoredRun;
@@ -31,7 +31,7 @@ pub fn run_without_store<R: Wait>(
     requires graph { IsDataGraph graph.now }
     requires cut { CanBeCut graph.now cut.now }
     requires start { HasStart job.now.algorithm job.now.source graph.now }
-    requires edges_fit { HasEdgesFor job.now.algorithm graph.now }
+    requires edges_fit { RunsByScopes job.now.algorithm graph.now }
     requires numbers { HasNumbers (job_view job.now).fields }
     requires failures { AreJobFailures job.now.machines job.now.failures.items }
     requires few { length job.now.failures.items ≤ 64 }

@@ -6,6 +6,7 @@ mod failing;
 mod file_verbs;
 mod laws;
 mod notes;
+mod pairing;
 mod playing;
 mod printing;
 mod running;

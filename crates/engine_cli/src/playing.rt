@@ -1,5 +1,6 @@
 //! The plan of a job's run, and its program.
-ghost use Rattle.std.specs.Prelude.{◌≡◌};
+ghost use Rattle.std.specs.Prelude.{◌≡◌, ◌≢◌};
+ghost use Rattle.gl_base.specs.declared.jobs.Algorithm.TheVariants.{Pairs};
 ghost use Rattle.engine_cli.specs.Plays.{source_id, update_of, update_of_program};
 
 use gl_base::{INF, Job};
@@ -21,11 +22,15 @@ pub fn plan_of(job: &Job) -> RunPlan
     }
 }
 
-/// The program of the job's algorithm.
+/// The program of the job's algorithm, which is not that of pairs.
 pub fn program_of(job: &Job) -> JobProgram
+    requires { job.now.algorithm ≢ Pairs }
     ensures { update_of_program result ≡ update_of job.now.algorithm job.now.source }
 {
-    JobProgram::of(job.algorithm, source_of(job))
+    match JobProgram::of(job.algorithm, source_of(job)) {
+        Some(program) => program,
+        None => unreachable!(),
+    }
 }
 
 /// The identifier of the job's source, and the greatest number where it has none.

@@ -4,7 +4,7 @@ ghost use Rattle.gl_outside.specs.Frames.{ChangesSources};
 ghost use Rattle.job_io.specs.job_files.NamesRead.{RunOpens, names_of};
 ghost use Rattle.job_io.specs.whole_files.FilesUsed.{OpensInOrder};
 ghost use Rattle.engine_cli.specs.Frame.{KeepsFiles, KeepsSink};
-ghost use Rattle.engine_cli.specs.Inner.Prepares.{ChangesInput, IsMadeRun, IsOfRun, IsPrepared, IsPrintable, IsRunnable, RunInputErrorCause, UsesNamed, unfinished_status};
+ghost use Rattle.engine_cli.specs.Inner.Prepares.{CanRun, ChangesInput, IsMadeRun, IsOfRun, IsPrepared, IsPrintable, IsRunnable, RunInputErrorCause, UsesNamed, unfinished_status};
 ghost use Rattle.engine_cli.specs.JobRuns.{is_resumed, lists_of_call, lists_of_run, no_lists};
 ghost use Rattle.engine_cli.specs.JobStores.{UsesStore};
 ghost use Rattle.engine_cli.specs.StatusMeanings.{moment};
@@ -12,11 +12,12 @@ ghost use Rattle.engine_cli.specs.Status.{IsInputRefusal, IsBeforeWriting, IsRef
 ghost use Rattle.engine_cli.specs.Verbs.{IsRun};
 
 use crate::failing::run_without_store;
+use crate::pairing::run_pairs;
 use crate::printing::print_run;
 use crate::storing::run_on_store;
 use crate::{Ended, Status};
 use engine_runs::answers::{StoredEnd, StoredRun};
-use gl_base::{Job, NoMemory};
+use gl_base::{Algorithm, Job, NoMemory};
 use gl_outside::{Files, Sink};
 use graph_core::Graph;
 use graph_text::generate::Writing;
@@ -114,8 +115,37 @@ fn prepare<R: Wait, F: Files>(
     }
 }
 
-/// Runs the job's algorithm, on its store where the job names one.
+/// Runs the job's algorithm: pairs as a whole, and every other one by scopes.
 fn run_input<R: Wait, F: Files>(
+    rt: &R,
+    alloc: Global,
+    asked: JobVerb,
+    files: &mut F,
+    input: &Input,
+) -> Result<StoredRun, StoreError>
+    requires { CanRun input.now }
+    ensures made { IfOk result
+        (IsMadeRun F.disks_observable asked input.now (F.state files.old) (F.state files.new)) }
+    ensures printable { IfOk result (IsPrintable input.now.graph) }
+    ensures refused { IfErr result
+        (RunInputErrorCause F.disks_observable asked input.now (F.state files.old)
+        (F.state files.new) input.now.job.store) }
+    ensures used { UsesNamed input.now.job.store (F.state files.old) (F.state files.new) }
+{
+    match input.job.algorithm {
+        Algorithm::Pairs => match run_pairs(alloc, &input.graph, &input.cut, &input.job) {
+            Ok(run) => Ok(run),
+            Err(NoMemory) => Err(StoreError::NoMemory),
+        },
+        Algorithm::Levels | Algorithm::Components | Algorithm::Paths => {
+            run_by_scopes(rt, alloc, asked, files, input)
+        }
+        Algorithm::Colours | Algorithm::Cores => run_by_scopes(rt, alloc, asked, files, input),
+    }
+}
+
+/// Runs the job's algorithm, on its store where the job names one.
+fn run_by_scopes<R: Wait, F: Files>(
     rt: &R,
     alloc: Global,
     asked: JobVerb,

@@ -11,7 +11,7 @@ ghost use Rattle.gl_outside.specs.Frames.{ChangesDisk};
 ghost use Rattle.engine_cli.specs.JobRuns.{RunsOnStore};
 ghost use Rattle.engine_cli.specs.Inner.Prepares.{IsPrintable, IsRunnable};
 ghost use Rattle.engine_cli.specs.Inner.Storing.{IsStoreRunFrom, IsRunIntoStore, RunOnStoreErrorCause, RunOnDiskErrorCause, RunOnJournalErrorCause, RunStoredErrorCause, no_store_of_open, no_store_of_journal, no_store_of_run};
-ghost use Rattle.engine_cli.specs.Plays.{update_of};
+ghost use Rattle.engine_cli.specs.Plays.{RunsByScopes, update_of};
 
 use crate::playing::{plan_of, program_of};
 use engine_runs::answers::{RunInput, StoredPlan, StoredRun};

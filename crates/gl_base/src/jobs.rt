@@ -15,6 +15,10 @@ pub enum Algorithm {
     /// The core number: the greatest k for which the vertex lies in a part of the graph whose
     /// vertices all have at least k neighbours in that part. Edges have no direction.
     Cores,
+    /// The identifier of the neighbour with which the vertex is matched, so that no two neighbours
+    /// are left unmatched. Edges have no direction. An update writes the number of a neighbour too,
+    /// as that of no other algorithm does.
+    Pairs,
 }
 
 /// How updates that run side by side are kept apart.

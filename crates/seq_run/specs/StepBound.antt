@@ -3,7 +3,7 @@ use Rattle.std.specs.Prelude.{ℕ, ◌+◌, ◌-◌, ◌*◌, max, List, [], ◌
 use Rattle.gl_base.specs.declared.entries.Entry.{Entry}
 use Rattle.gl_base.specs.declared.entries.Entry.TheVariants.{Go, Restart}
 use Rattle.gl_base.specs.declared.jobs.Algorithm.{Algorithm}
-use Rattle.gl_base.specs.declared.jobs.Algorithm.TheVariants.{Levels, Components, Paths, Colours, Cores}
+use Rattle.gl_base.specs.declared.jobs.Algorithm.TheVariants.{Levels, Components, Paths, Colours, Cores, Pairs}
 use Rattle.graph_core.specs.DataGraph.{DataEdge, DataGraph, size}
 
 -- a restart begins the count anew
@@ -32,3 +32,4 @@ step_bound g Components = steps_at_most g (size g)
 step_bound g Paths = steps_at_most g ((size g - 1) * greatest_weight g.edges + 1)
 step_bound g Colours = size g
 step_bound g Cores = steps_at_most g (size g)
+step_bound g Pairs = size g

@@ -68,7 +68,7 @@ fn print_merge(rt: &impl Print, front: Fold, rest: Fold) -> io::Result<()> {
 /// Identifiers and numbers of vertices, and what the numbers are.
 type Answer = (&'static str, &'static [u64], &'static [u64], Algorithm);
 
-static ANSWERS: [Answer; 7] = [
+static ANSWERS: [Answer; 8] = [
     ("levels", &[4, 1, 3, 2], &[0, 1, 2, INF], Algorithm::Levels),
     (
         "components",
@@ -83,6 +83,7 @@ static ANSWERS: [Answer; 7] = [
         Algorithm::Colours,
     ),
     ("cores", &[4, 1, 3, 2], &[0, 1, 2, INF], Algorithm::Cores),
+    ("pairs", &[4, 1, 3, 2], &[2, 1, INF, INF], Algorithm::Pairs),
     ("paths", &[4, 1, 3, 2], &[0, 1, 2, INF], Algorithm::Paths),
     ("paths without vertices", &[], &[], Algorithm::Paths),
     (

@@ -83,7 +83,9 @@ fn play_on<R: AllocGlobal + Wait>(
     lines: &[&str],
     page: &mut Page,
 ) -> Result<(), Trouble> {
-    let program = JobProgram::of(plan.algorithm, plan.source);
+    let Some(program) = JobProgram::of(plan.algorithm, plan.source) else {
+        return Err(Trouble::Because("the program has no such updates"));
+    };
     let beginning = beginning_of(rt.alloc(), graph, program, plan)?;
     let outcome = if plan.is_call {
         play_call(rt, &beginning, &plan.failures, lines, page)

@@ -1,7 +1,8 @@
 -- What reading a job and its graph and running it answers.
-use Rattle.std.specs.Prelude.{◌≡◌, ◌≤◌, ℕ, Bool, All, List, length, ⊤, Option, None, Some, Result, Ok, Err}
+use Rattle.std.specs.Prelude.{◌≡◌, ◌≤◌, ◌⊎◌, ℕ, Bool, false, All, List, [], length, ⊤, Option, None, Some, Result, Ok, Err}
 use Rattle.graph_atoms.specs.atom_gather.Cuts.{CanBeCut}
 use Rattle.graph_atoms.specs.declared.atom_gather.cuts.Cut.{Cut}
+use Rattle.gl_base.specs.declared.jobs.Algorithm.TheVariants.{Pairs}
 use Rattle.gl_outside.specs.Faults.{Rose}
 use Rattle.gl_outside.specs.FilesState.{FilesState}
 use Rattle.graph_core.specs.DataGraph.{DataGraph, IsDataGraph, size}
@@ -25,7 +26,7 @@ use Rattle.engine_cli.specs.declared.status.Status.{Status}
 use Rattle.engine_cli.specs.declared.status.Status.TheVariants.{BudgetSpent, DiskFault, SnapshotsFull}
 use Rattle.engine_cli.specs.Inner.Storing.{RunOnStoreErrorCause}
 use Rattle.engine_cli.specs.JobRuns.{RunsSo, is_resumed}
-use Rattle.engine_cli.specs.Plays.{HasEdgesFor}
+use Rattle.engine_cli.specs.Plays.{HasEdgesFor, RunsByScopes}
 use Rattle.engine_cli.specs.StatusMeanings.{Refuses}
 
 -- a verb that runs a job
@@ -36,15 +37,29 @@ IsOfRun verb.Cut = ⊥
 IsOfRun verb.Init = ⊥
 
 -- The job's numbers and failures are those that a job may have, its source is there, its edges are such as
--- the algorithm is of, and its graph can be cut so.
+-- the algorithm is of, whose updates write their vertex and its edges alone, and its graph can be cut so.
 pub record IsRunnable (input : Input) : Type 0 where
   pub numbers : HasNumbers (job_view input.job).fields
   pub failures : AreJobFailures input.job.machines input.job.failures.items
   pub few : length input.job.failures.items ≤ 64
   pub graph : IsDataGraph input.graph
   pub start : HasStart input.job.algorithm input.job.source input.graph
-  pub edges_fit : HasEdgesFor input.job.algorithm input.graph
+  pub edges_fit : RunsByScopes input.job.algorithm input.graph
   pub cut : CanBeCut input.graph input.cut
+
+-- The job is one of pairs without a store and failures, its numbers are those that a job may have, its edges have no direction, and its graph can be cut so.
+pub record CanBeMatched (input : Input) : Type 0 where
+  pub pairs : input.job.algorithm ≡ Pairs
+  pub numbers : HasNumbers (job_view input.job).fields
+  pub store : input.job.store ≡ None
+  pub failures : input.job.failures.items ≡ []
+  pub graph : IsDataGraph input.graph
+  pub undirected : input.graph.directed ≡ false
+  pub cut : CanBeCut input.graph input.cut
+
+-- the job can be run, by one way or the other
+abbrev pub CanRun : Input → Type 0
+CanRun input = IsRunnable input ⊎ CanBeMatched input
 
 -- there is a number for each vertex, and each update is of one
 pub record IsPrintable (g : DataGraph) (run : StoredRun) : Type 0 where

@@ -1,5 +1,6 @@
 //! The programs of the algorithms that a job may name.
-ghost use Rattle.std.specs.Prelude.{◌≡◌};
+ghost use Rattle.std.specs.Prelude.{◌≡◌, ◌↔◌, None, IfSome};
+ghost use Rattle.gl_base.specs.declared.jobs.Algorithm.TheVariants.{Pairs};
 ghost use Rattle.graph_programs.specs.selection.ProgramUpdates.{update_of_program, update_of_algorithm};
 
 use crate::prog_colours::Colours;
@@ -9,7 +10,7 @@ use crate::prog_paths::Paths;
 use gl_base::Algorithm;
 use update_api::{Program, Scope, Woken};
 
-/// The program of one of the algorithms.
+/// The program of one of the algorithms whose updates write their vertex and its edges.
 #[derive(Clone, Copy)]
 pub enum JobProgram {
     Levels(Levels),
@@ -21,16 +22,19 @@ pub enum JobProgram {
 
 impl JobProgram {
     /// The program of the algorithm. Where it asks for a source, that is the vertex with this
-    /// identifier.
-    pub fn of(algorithm: Algorithm, source: u64) -> JobProgram
-        ensures { update_of_program result ≡ update_of_algorithm algorithm source }
+    /// identifier. Pairs have none: their updates write neighbours too.
+    pub fn of(algorithm: Algorithm, source: u64) -> Option<JobProgram>
+        ensures update { IfSome result (λ program.
+            update_of_program program ≡ update_of_algorithm algorithm source) }
+        ensures none { (result ≡ None) ↔ (algorithm ≡ Pairs) }
     {
         match algorithm {
-            Algorithm::Levels => JobProgram::Levels(Levels { source }),
-            Algorithm::Components => JobProgram::Components(Components),
-            Algorithm::Paths => JobProgram::Paths(Paths { source }),
-            Algorithm::Colours => JobProgram::Colours(Colours),
-            Algorithm::Cores => JobProgram::Cores(Cores),
+            Algorithm::Levels => Some(JobProgram::Levels(Levels { source })),
+            Algorithm::Components => Some(JobProgram::Components(Components)),
+            Algorithm::Paths => Some(JobProgram::Paths(Paths { source })),
+            Algorithm::Colours => Some(JobProgram::Colours(Colours)),
+            Algorithm::Cores => Some(JobProgram::Cores(Cores)),
+            Algorithm::Pairs => None,
         }
     }
 }

@@ -1,5 +1,5 @@
 //! The answer: the number of each vertex.
-ghost use Rattle.std.specs.Prelude.{◌≡◌, ◌∷◌, ◌++◌, [], length, decimal, IfOk, OnOk};
+ghost use Rattle.std.specs.Prelude.{◌≡◌, ◌∷◌, ◌++◌, [], length, decimal, IfOk, MatchOption, OnOk};
 ghost use Rattle.graph_core.specs.DataGraph.{size};
 ghost use Rattle.graph_text.specs.order_text.Answers.{answer_text, number_text};
 
@@ -9,7 +9,8 @@ use graph_core::Graph;
 use std::alloc::Global;
 
 /// A line for each vertex, by ascending identifier: the identifier, one blank, and the number at
-/// its place in decimal. Where `kind` is `Paths`, `INF` is printed as `infinity`.
+/// its place in decimal. `INF` is printed as `infinity` where `kind` is `Paths`, and as `none` where
+/// it is `Pairs`.
 pub fn answer(
     alloc: Global,
     graph: &Graph,
@@ -42,10 +43,23 @@ fn size_of_lines(graph: &Graph, values: &[u64], kind: Algorithm) -> usize
 
 /// How many bytes a number has, or the word for `INF`.
 fn size_of_number(number: u64, kind: Algorithm) -> usize {
-    if kind == Algorithm::Paths && number == INF {
-        return 8;
+    match word_for(number, kind) {
+        Some(word) => word.len(),
+        None => digits(number),
     }
-    digits(number)
+}
+
+/// The word that is printed in place of a number, if there is one.
+fn word_for(number: u64, kind: Algorithm) -> Option<&'static str>
+    ensures { MatchOption result (number_text kind number ≡ decimal number)
+        (λ word. number_text kind number ≡ word.now) }
+{
+    match kind {
+        Algorithm::Paths if number == INF => Some("infinity"),
+        Algorithm::Pairs if number == INF => Some("none"),
+        Algorithm::Levels | Algorithm::Components | Algorithm::Paths => None,
+        Algorithm::Colours | Algorithm::Cores | Algorithm::Pairs => None,
+    }
 }
 
 /// Adds the line of a vertex.
@@ -56,10 +70,9 @@ fn push_line(text: &mut Vec<u8>, id: u64, number: u64, kind: Algorithm) -> Resul
 {
     push_decimal(text, id)?;
     text.push(b' ')?;
-    if kind == Algorithm::Paths && number == INF {
-        text.extend_from_slice(b"infinity")?;
-    } else {
-        push_decimal(text, number)?;
+    match word_for(number, kind) {
+        Some(word) => text.extend_from_slice(word.as_bytes())?,
+        None => push_decimal(text, number)?,
     }
     text.push(b'\n')?;
     Ok(())

@@ -5,7 +5,7 @@ use Rattle.std.specs.Str.{bytes_eq}
 use Rattle.gl_base.specs.declared.limits.TheConstants.{MAX_ID, MAX_NAME_BYTES}
 use Rattle.gl_base.specs.declared.job_faults.Key.TheVariants as key
 use Rattle.gl_base.specs.declared.jobs.Algorithm.{Algorithm}
-use Rattle.gl_base.specs.declared.jobs.Algorithm.TheVariants.{Levels, Components, Paths, Colours, Cores}
+use Rattle.gl_base.specs.declared.jobs.Algorithm.TheVariants.{Levels, Components, Paths, Colours, Cores, Pairs}
 use Rattle.gl_base.specs.declared.jobs.EngineKind.{EngineKind}
 use Rattle.gl_base.specs.declared.jobs.EngineKind.TheVariants.{Locking}
 use Rattle.serde_json.specs.Data.{Data}
@@ -39,6 +39,7 @@ needs_source Components = false
 needs_source Paths = true
 needs_source Colours = false
 needs_source Cores = false
+needs_source Pairs = false
 
 abbrev pub source_of : Algorithm → Option Data → Result (Option ℕ) KeyFault
 source_of algorithm None =

@@ -6,7 +6,7 @@ use Rattle.gl_base.specs.Texts.{Text}
 use Rattle.gl_base.specs.declared.job_faults.Key.{Key}
 use Rattle.gl_base.specs.declared.job_faults.Key.TheVariants as key
 use Rattle.gl_base.specs.declared.jobs.Algorithm.{Algorithm}
-use Rattle.gl_base.specs.declared.jobs.Algorithm.TheVariants.{Levels, Components, Paths, Colours, Cores}
+use Rattle.gl_base.specs.declared.jobs.Algorithm.TheVariants.{Levels, Components, Paths, Colours, Cores, Pairs}
 use Rattle.gl_base.specs.declared.jobs.EngineKind.{EngineKind}
 use Rattle.gl_base.specs.declared.jobs.EngineKind.TheVariants.{Locking, Chromatic}
 use Rattle.serde_json.specs.Data.{Data}
@@ -56,7 +56,8 @@ algorithm_named s = if bytes_eq s (codes "levels") then Some Levels
     else (if bytes_eq s (codes "components") then Some Components
     else (if bytes_eq s (codes "paths") then Some Paths
     else (if bytes_eq s (codes "colours") then Some Colours
-    else (if bytes_eq s (codes "cores") then Some Cores else None))))
+    else (if bytes_eq s (codes "cores") then Some Cores
+    else (if bytes_eq s (codes "pairs") then Some Pairs else None)))))
 
 abbrev pub algorithm_in : Data → Result Algorithm KeyFault
 algorithm_in d = choice_at key.Algorithm algorithm_named (as_str d)

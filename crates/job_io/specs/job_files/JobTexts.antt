@@ -4,7 +4,7 @@ use Rattle.gl_base.specs.declared.job_faults.JobFault.{JobFault}
 use Rattle.gl_base.specs.declared.job_faults.JobFault.TheVariants.{OutOfRange}
 use Rattle.gl_base.specs.declared.job_faults.Key.TheVariants.{Source}
 use Rattle.gl_base.specs.declared.jobs.Algorithm.{Algorithm}
-use Rattle.gl_base.specs.declared.jobs.Algorithm.TheVariants.{Levels, Components, Paths, Colours, Cores}
+use Rattle.gl_base.specs.declared.jobs.Algorithm.TheVariants.{Levels, Components, Paths, Colours, Cores, Pairs}
 use Rattle.gl_base.specs.declared.text_faults.TextFault.{TextFault}
 use Rattle.gl_outside.specs.FilesState.{FilesState}
 use Rattle.graph_core.specs.DataGraph.{DataGraph, size}
@@ -24,6 +24,7 @@ is_weighted Components = false
 is_weighted Paths = true
 is_weighted Colours = false
 is_weighted Cores = false
+is_weighted Pairs = false
 
 -- the two texts tell the graph that the job is about
 abbrev pub DescribeJobGraph : JobFields → List ℕ → List ℕ → DataGraph → Type 0
@@ -45,6 +46,7 @@ HasStart Components source g = Unit {0}
 HasStart Paths source g = IsThere g source
 HasStart Colours source g = Unit {0}
 HasStart Cores source g = Unit {0}
+HasStart Pairs source g = Unit {0}
 
 -- the file says this job, which the verb can do
 abbrev pub SaysJob : JobVerb → FilesState → List ℕ → JobSayings → Type 0

@@ -2,19 +2,20 @@
 use Rattle.std.specs.Prelude.{ℕ, if◌then◌else◌, length, Option, None, Some}
 use Rattle.sha2.specs.Sha256.{sha256}
 use Rattle.gl_base.specs.declared.jobs.Algorithm.{Algorithm}
-use Rattle.gl_base.specs.declared.jobs.Algorithm.TheVariants.{Levels, Components, Paths, Colours, Cores}
+use Rattle.gl_base.specs.declared.jobs.Algorithm.TheVariants.{Levels, Components, Paths, Colours, Cores, Pairs}
 use Rattle.graph_core.specs.DataGraph.{DataGraph, size}
 use Rattle.graph_core.specs.Digest.{digest_bytes}
 use Rattle.job_io.specs.job_config.Fields.{JobFields}
 use Rattle.store.specs.declared.store_format.header.Header.{Header}
 
--- the number that an algorithm has in a store
+-- the number that an algorithm has in a store; pairs have none there
 abbrev pub algorithm_number : Algorithm → ℕ
 algorithm_number Levels = 1
 algorithm_number Components = 2
 algorithm_number Paths = 3
 algorithm_number Colours = 4
 algorithm_number Cores = 5
+algorithm_number Pairs = 0
 
 -- a number, or 0
 abbrev pub number_or_zero : Option ℕ → ℕ
@@ -28,6 +29,7 @@ used_source Components source = 0
 used_source Paths source = number_or_zero source
 used_source Colours source = 0
 used_source Cores source = 0
+used_source Pairs source = 0
 
 -- what the store of a job on this graph is for
 abbrev pub header_for : JobFields → DataGraph → Header

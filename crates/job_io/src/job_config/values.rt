@@ -66,6 +66,7 @@ pub fn read_algorithm(value: &Value) -> Result<Algorithm, KeyFault>
         "paths" => Ok(Algorithm::Paths),
         "colours" => Ok(Algorithm::Colours),
         "cores" => Ok(Algorithm::Cores),
+        "pairs" => Ok(Algorithm::Pairs),
         _ => Err(KeyFault::OutOfRange(Key::Algorithm, name.len() as u64)),
     }
 }

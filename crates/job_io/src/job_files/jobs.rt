@@ -3,13 +3,13 @@ ghost use Rattle.std.specs.Prelude.{◌≡◌, [], ◌∷◌, OnOk};
 ghost use Rattle.gl_outside.specs.Names.{AppendsNames};
 ghost use Rattle.job_io.specs.job_config.Views.{job_view};
 ghost use Rattle.job_io.specs.whole_files.FilesUsed.{ReadsFiles};
-ghost use Rattle.job_io.specs.job_files.DoableJobs.{agreeing, doable};
+ghost use Rattle.job_io.specs.job_files.DoableJobs.{agreeing, clash_of_pairs, doable};
 ghost use Rattle.job_io.specs.job_files.Inner.Causes.{no_job_of_bytes, no_job_of_file};
 ghost use Rattle.job_io.specs.job_files.Inner.Jobs.{TakesJob, said_unless};
 
 use crate::job_config::{JobReading, read_job};
 use crate::whole_files::{NotRead, front_of};
-use gl_base::{Algorithm, Job, JobFault, Key, MAX_JOB_BYTES};
+use gl_base::{Algorithm, EngineKind, Job, JobFault, Key, MAX_JOB_BYTES};
 use gl_outside::Files;
 use std::alloc::Global;
 
@@ -107,5 +107,23 @@ fn clash(job: &Job) -> Option<JobFault>
         Algorithm::Levels | Algorithm::Components | Algorithm::Paths | Algorithm::Colours => None,
         Algorithm::Cores if job.directed => Some(JobFault::Clash(Key::Directed)),
         Algorithm::Cores => None,
+        Algorithm::Pairs => Some(JobFault::Clash(clash_of_pairs(job)?)),
+    }
+}
+
+/// The first key whose value does not go with pairs: a direction, colours, a store or failures.
+fn clash_of_pairs(job: &Job) -> Option<Key>
+    ensures { result ≡ clash_of_pairs (job_view job.now) }
+{
+    if job.directed {
+        Some(Key::Directed)
+    } else if matches!(job.engine, EngineKind::Chromatic) {
+        Some(Key::Engine)
+    } else if job.store.is_some() {
+        Some(Key::Store)
+    } else if !job.failures.is_empty() {
+        Some(Key::Failures)
+    } else {
+        None
     }
 }

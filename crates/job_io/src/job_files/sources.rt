@@ -19,6 +19,7 @@ pub fn lacked_source(graph: &Graph, job: &Job) -> Option<u64>
         Algorithm::Paths => missed_source(graph, job),
         Algorithm::Colours => None,
         Algorithm::Cores => None,
+        Algorithm::Pairs => None,
     }
 }
 

@@ -1,5 +1,6 @@
 //! What the store of a job is for.
-ghost use Rattle.std.specs.Prelude.{◌≡◌};
+ghost use Rattle.std.specs.Prelude.{◌≡◌, ◌≢◌};
+ghost use Rattle.gl_base.specs.declared.jobs.Algorithm.TheVariants.{Pairs};
 ghost use Rattle.job_io.specs.job_config.Ranges.{HasNumbers};
 ghost use Rattle.job_io.specs.job_config.Views.{job_view};
 ghost use Rattle.store.specs.store_format.Headers.{IsAllowed};
@@ -10,9 +11,10 @@ use graph_core::{Graph, digest};
 use store::store_format::{Digest, Header};
 
 /// What the store of a job on its graph is for: the machines and the program of the job, and the
-/// graph.
+/// graph. Pairs have no store.
 pub fn header_of(job: &Job, graph: &Graph) -> Header
-    requires { HasNumbers (job_view job.now).fields }
+    requires numbers { HasNumbers (job_view job.now).fields }
+    requires stored { job.now.algorithm ≢ Pairs }
     ensures header { result ≡ header_for (job_view job.now).fields graph.now }
     ensures allowed { IsAllowed result }
 {
@@ -27,8 +29,9 @@ pub fn header_of(job: &Job, graph: &Graph) -> Header
     }
 }
 
-/// The number that an algorithm has in a store.
+/// The number that an algorithm has in a store. Pairs have none there.
 fn algorithm_number(algorithm: Algorithm) -> u8
+    requires { algorithm ≢ Pairs }
     ensures { result ≡ algorithm_number algorithm }
 {
     match algorithm {
@@ -37,6 +40,7 @@ fn algorithm_number(algorithm: Algorithm) -> u8
         Algorithm::Paths => 3,
         Algorithm::Colours => 4,
         Algorithm::Cores => 5,
+        Algorithm::Pairs => unreachable!(),
     }
 }
 
@@ -50,5 +54,6 @@ fn used_source(job: &Job) -> u64
         Algorithm::Paths => job.source.unwrap_or(0),
         Algorithm::Colours => 0,
         Algorithm::Cores => 0,
+        Algorithm::Pairs => 0,
     }
 }

@@ -1,7 +1,7 @@
 use Rattle.std.proofs.lemmas.Result.{err_from_is_err_and}
 use Rattle.job_io.specs.job_config.Views.{job_view}
 use Rattle.engine_cli.proofs.JobFailures.{few-failures, job-failures}
-use Rattle.engine_cli.proofs.Preparing.{alone-used, can-cut, edges-fit, handed-used, input-names, input-refuses, input-used, none-made, reads-used, rose-since, runs-since, sources-input, store-late, store-unused, store-used}
+use Rattle.engine_cli.proofs.Preparing.{alone-used, can-cut, can-run, edges-fit, handed-used, input-names, input-refuses, input-used, none-made, reads-used, rose-since, runs-since, sources-input, store-late, store-unused, store-used}
 use Rattle.engine_cli.proofs.running.prepare.Goals as goal
 
 pub returns-in_err-input-clause-answer : goal.returns-in_err-input-clause-answer
@@ -29,7 +29,8 @@ pub run_input-requires : goal.run_input-requires
 run_input-requires g c =
     let input = c.in_ok-input.input in
     let was = c.in_ok-input.ensures.answer.0 in
-    record { numbers = was.ready.numbers; failures = job-failures input.job.machines input.job.failures.items was.ready.failures; few = few-failures input.job.machines input.job.failures.items was.ready.failures; graph = was.graph; start = was.start; edges_fit = edges-fit c.args.asked (job_view input.job) input.graph c.requires was.ready.doable was.directed; cut = can-cut c.in_ok-input.input (g.F.Files.state c.args.files.now) was.ready.numbers.atoms.0 c.in_ok-input.ensures.cut }
+    can-run c.args.asked input c.requires was.ready.doable was.directed was.ready.numbers (job-failures input.job.machines input.job.failures.items was.ready.failures) (few-failures input.job.machines input.job.failures.items was.ready.failures)
+    was.graph was.start (can-cut c.in_ok-input.input (g.F.Files.state c.args.files.now) was.ready.numbers.atoms.0 c.in_ok-input.ensures.cut)
 
 pub returns-in-Ok-clause-answer : goal.returns-in-Ok-clause-answer
 returns-in-Ok-clause-answer g c =

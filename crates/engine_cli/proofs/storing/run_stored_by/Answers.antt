@@ -2,7 +2,7 @@ use Rattle.std.proofs.Common.{IsTrue, ℕ, ◌+◌, ◌^◌, ◌≤◌, Err, sym
 use Rattle.job_io.specs.job_config.Views.{job_view}
 use Rattle.recovery.specs.Journals.{records_size, snapshots_in}
 use Rattle.store.specs.declared.snap_journal.faults.JournalFault.{JournalFault}
-use Rattle.engine_cli.proofs.StoredBy.{IfErr-is, IfOk-both, IfOk-map, IfOk-two, fault-by, full-by, printable-of, run-from, why-not-stored}
+use Rattle.engine_cli.proofs.StoredBy.{IfErr-is, IfOk-both, IfOk-map, IfOk-two, fault-by, full-by, run-from, why-not-stored}
 use Rattle.engine_cli.proofs.storing.run_stored_by.Goals as goal
 
 pub returns-clause-run : goal.returns-clause-run

@@ -1,6 +1,6 @@
 use Rattle.engine_cli.proofs.StoredBy.{IfErr-map}
 use Rattle.engine_cli.proofs.Preparing.{none-on-store}
-use Rattle.engine_cli.proofs.running.run_input.Goals as goal
+use Rattle.engine_cli.proofs.running.run_by_scopes.Goals as goal
 
 pub returns-in-Some-clause-refused : goal.returns-in-Some-clause-refused
 returns-in-Some-clause-refused g c =
