@@ -13,7 +13,6 @@ pub fn take_pick(tasks: &mut TaskSet) -> Option<Pick>
     ensures taken { IfSome result (λ pick. tasks.new ≡ with_pick tasks.old pick) }
     ensures none { result ≡ None → tasks.new ≡ tasks.old }
 {
-    let _ = tasks.look();
     tasks.next()
 }
 

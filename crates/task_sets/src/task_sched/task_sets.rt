@@ -138,6 +138,9 @@ impl TaskSet {
     /// the window has room; and `None` exactly where there is no such vertex.
     pub fn next(&mut self) -> Option<Pick>
         ensures pick { IsNextPick self.old result }
+        ensures within { IfSome result (λ pick. pick.vertex.0 < length self.old.task) }
+        ensures asked { (u : ℕ) →
+            list_any (λ v. v.0 == u) self.old.asked ≡ is_free self.old.pending self.old.admitted u }
         ensures snapshot { (v : Vertex) → result ≡ Some (record { vertex = v; snapshot = true }) →
             self.new ≡ record self.old {
               admitted = slice_set self.old.admitted v.0 true;

@@ -12,4 +12,4 @@ each t (Some pick) can next = can pick next
 pub returns-clause-can : goal.returns-clause-can
 returns-clause-can c =
     let t = c.args.tasks.now in
-    each t c.next.result (λ pick. can_take t c.look.result pick c.look.ensures.pick c.look.ensures.within c.look.ensures.asked) c.next.ensures.pick
+    each t c.next.result (λ pick. can_take t c.next.result pick c.next.ensures.pick c.next.ensures.within c.next.ensures.asked) c.next.ensures.pick
