@@ -2,7 +2,7 @@
 ghost use Rattle.std.specs.Prelude.{◌≡◌, ℕ, ◌<◌, ◌==◌, ◌&&◌, ◌||◌, ◌∷◌, [], false, not, length, slice_index_or, All, IfOk, OnOk};
 ghost use Rattle.std.specs.List.{list_any};
 ghost use Rattle.gl_base.specs.declared.atoms.Lines.{Lines};
-ghost use Rattle.graph_core.specs.DataGraph.{size};
+ghost use Rattle.graph_core.specs.DataGraph.{IsDataGraph, size};
 ghost use Rattle.graph_core.specs.Growth.{numbers_of};
 ghost use Rattle.graph_atoms.specs.atom_cut.Cuts.{atom_numbers};
 ghost use Rattle.graph_atoms.specs.atom_cut.Atoms.{AreAtoms, AreAtomVertices, is_in};
@@ -40,8 +40,9 @@ pub fn vertices_of(
 ) -> Result<Vec<Lines>, NoMemory>
     requires each { length of.now ≡ size graph.now }
     requires below { All (λ a. a.0 < atoms) of.now }
-    ensures { IfOk result (λ lines.
+    ensures lines { IfOk result (λ lines.
         AreAtomVertices graph.now (atom_numbers of.now) atoms lines.items) }
+    ensures graph { IfOk result (λ lines. IsDataGraph graph.now) }
 {
     let mut lines = no_lines(alloc, graph, of, atoms)?;
     add_vertices(graph, of, &mut lines)?;
@@ -85,7 +86,9 @@ fn add_vertices(graph: &Graph, of: &[AtomNo], lines: &mut [Lines]) -> Result<(),
     requires each { length of.now ≡ size graph.now }
     requires below { All (λ a. a.0 < length lines.old) of.now }
     requires none { AllHold graph.now (atom_numbers of.now) 0 0 0 lines.old }
-    ensures { OnOk result (AllHold graph.now (atom_numbers of.now) (size graph.now) 0 0 lines.new) }
+    ensures held { OnOk result
+        (AllHold graph.now (atom_numbers of.now) (size graph.now) 0 0 lines.new) }
+    ensures graph { IsDataGraph graph.now }
 {
     for v in 0..graph.n() {
         let vertex = Vertex(v);

@@ -47,7 +47,6 @@ pub fn parts_by_owner(
         IsOwnedBy graph.now machines (slice_index (atom_numbers owners.now)) st →
         IfOk result (λ locals. AreUnsetParts st locals.items) }
 {
-    let _ = graph.n();
     let lines = vertices_of(alloc, graph, owners, machines)?;
     make_all(alloc, graph, lines, machines, first)
 }
