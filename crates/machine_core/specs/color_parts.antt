@@ -1,4 +1,3 @@
 pub mod Parts
 pub mod Settings
-pub mod Order
 pub mod Enlisting

@@ -1,8 +1,5 @@
-//! The parts of one machine of a cluster that goes by colours, and what they stand for in the
-//! cluster's law.
+//! Vertices of a machine that goes by colours come to stand in line.
 
-mod cores;
 mod enlisting;
 
-pub use cores::ColorCore;
 pub use enlisting::{Which, enlist, enlist_all, enlist_at, enlist_near};

@@ -1,3 +1,2 @@
 pub mod Lines
-pub mod Scopes
 pub mod Inner

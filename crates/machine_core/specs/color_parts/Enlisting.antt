@@ -6,7 +6,7 @@ use Rattle.local_graph.specs.declared.sides.Side.{Side}
 use Rattle.partition.specs.declared.machine_numbers.keeping.Numbers.{Numbers}
 use Rattle.machine_core.specs.declared.color_parts.enlisting.Which.{Which}
 use Rattle.machine_core.specs.declared.color_parts.enlisting.Which.TheVariants.{All, Pending, Tasks}
-use Rattle.machine_core.specs.color_parts.Order.{is_flagged}
+use Rattle.task_sets.specs.task_sched.Tasks.{is_flagged}
 use Rattle.machine_core.specs.color_parts.Parts.{LinesView, TasksView, is_in_line}
 
 -- the vertices at the other ends
