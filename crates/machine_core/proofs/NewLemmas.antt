@@ -1,14 +1,35 @@
 -- A new machine is in order.
-use Rattle.std.proofs.Common.{◌≡◌, ℕ, ◌≤◌, Bool, true, false, Option, None, Some, is_some, List, length, refl, sym, ap, ◌∙◌, subst, All, arith, true≢false}
+use Rattle.std.proofs.Common.{◌≡◌, ◌==◌, ℕ, ◌≤◌, Bool, true, false, Option, None, Some, is_some, List, length, refl, sym, ap, ◌∙◌, subst, All, arith, true≢false}
+use Rattle.std.specs.List.{list_any}
 use Rattle.cluster_laws.specs.cluster_core.Settings.{Setting, IsSetting}
 use Rattle.local_graph.specs.Locals.{place_at}
-use Rattle.partition.specs.machine_numbers.Views.{flag_there, is_flagged}
+use Rattle.partition.specs.local_parts.Parts.{AreIn}
+use Rattle.partition.specs.machine_numbers.Views.{AreTasksOf, flag_there, ghost_datum, is_flagged}
 use Rattle.partition.proofs.machine_numbers.PartLemmas.{sides_are}
 use Rattle.machine_core.specs.declared.machine_parts.cores.Core.{Core}
 use Rattle.machine_core.specs.machine_parts.Order.{IsGraphInOrder, IsOrderly, StandsAtLock, nobody}
+use Rattle.machine_core.specs.machine_parts.Parts.{is_own, is_owned, datum_here}
 use Rattle.machine_core.specs.machine_parts.Settings.{IsPartOf}
-use Rattle.machine_core.specs.Machines.{IsNewMachine}
+use Rattle.scope_locks.specs.scope_pipe.Pipes.{IsEmpty}
+use Rattle.scope_locks.specs.vertex_locks.Tables.{IsUnclaimed}
 use Rattle.machine_core.proofs.GraphLemmas.{graph_in_order}
+
+-- Nothing has happened at the machine: each row is in, tasks have the places of own vertices and none is admitted, each ghost has a
+-- copy, own data have version 0 and the mark of the snapshot that the run began with; no scope is in flight or has come; and each
+-- own vertex has a lock that nobody claims.
+pub record IsNewMachine (m : Core) : Type 0 where
+  pub rows : AreIn m.numbers.local
+  pub tasks : AreTasksOf m.numbers.local m.numbers.tasks
+  pub admitted : (u : ℕ) → is_flagged m.numbers.tasks.admitted u ≡ false
+  pub outside : m.numbers.tasks.outside ≡ 0
+  pub ghosts : (x : ℕ) → is_some (ghost_datum m.numbers.ghosts x) ≡ list_any (λ g. g.vertex.0 == x) m.numbers.local.ghosts
+  pub versions : (v : ℕ) → is_own m.numbers.local v ≡ true → (datum_here m.numbers v).version ≡ 0
+  pub marks : (v : ℕ) → is_own m.numbers.local v ≡ true → (datum_here m.numbers v).mark ≡ m.terms.base
+  pub home : m.pipe.home ≡ m.numbers.local.me
+  pub width : m.pipe.width ≡ m.terms.pipeline
+  pub empty : IsEmpty m.pipe
+  pub owned : (x : ℕ) → is_owned m.locks x ≡ is_own m.numbers.local x
+  pub unclaimed : IsUnclaimed m.locks
 
 nothing : {X : Type 0} (e : X) (o : Option X) → o ≡ None → o ≡ Some e → ⊥
 nothing e o none some = true≢false (sym (ap is_some some) ∙ ap is_some none)

@@ -1,7 +1,7 @@
 -- The first message that waits for a machine is taken.
-use Rattle.std.proofs.Common.{◌≡◌, ℕ, zero, suc, ◌<◌, Bool, true, false, if◌then◌else◌, Option, None, Some, List, [], ◌∷◌, length, map, option_map, set, get_or, slice_get, IfSome, IfNone, inl, inr, nat_lt, ◌↔◌, true≢false, refl, sym, ap, ◌∙◌, subst, arith, get_or-set_same, get_or-set_other}
+use Rattle.std.proofs.Common.{◌≡◌, ℕ, zero, suc, ◌<◌, Bool, true, false, if◌then◌else◌, Option, None, Some, List, [], ◌∷◌, length, map, set, get_or, slice_get, inl, inr, nat_lt, ◌↔◌, true≢false, refl, sym, ap, ◌∙◌, arith, get_or-set_same, get_or-set_other}
 use Rattle.std.proofs.lemmas.Bool.{cases_eq, eq-eqb, ne_eqb, lt-ltb}
-use Rattle.std.proofs.lemmas.List.{length-set, set-get_or}
+use Rattle.std.proofs.lemmas.List.{set-get_or}
 use Rattle.gl_base.specs.declared.numbers.MachineNo.{MachineNo}
 use Rattle.gl_base.specs.declared.scopes.Peer.TheVariants.{Machine}
 use Rattle.cluster_laws.specs.cluster_core.Actions.{HasFirst}
@@ -10,11 +10,7 @@ use Rattle.cluster_laws.specs.cluster_core.Ranges.{set_at}
 use Rattle.wire.specs.outboxes.Outboxes.{OutboxView, OutboxesView, MessageView, no_outbox, outbox_to, waiting_for, with_outbox, left_behind, without_first}
 use Rattle.wire.specs.wire_msgs.Views.{message_view}
 use Rattle.wire.specs.declared.wire_msgs.messages.Message.{Message}
-use Rattle.machine_core.specs.declared.machine_parts.cores.Core.{Core}
-use Rattle.machine_core.specs.machine_parts.Order.{IsGraphInOrder, HasComeRight}
-use Rattle.machine_core.specs.machine_parts.Parts.{message_of, messages_for, part_of}
-use Rattle.machine_core.specs.Machines.{IsMachine}
-use Rattle.machine_core.specs.Messages.{HasSentFirst, message_told}
+use Rattle.machine_core.specs.machine_parts.Parts.{message_of, messages_for}
 
 -- ---- a list and its first
 
@@ -61,11 +57,8 @@ box_behind boxes b q box ws low is = elim (cases_eq q b) [
 
 -- what waits, where the first for machine `to` is taken
 module _ (before out : OutboxesView) (to : MachineNo) (behind : out ≡ with_outbox before (Machine to) (without_first (outbox_to before (Machine to)))) where
-  pub boxes_same : length out.machines ≡ length before.machines
-  boxes_same = ap (λ (o : OutboxesView). length o.machines) behind ∙ length-set before.machines to.0 (without_first (outbox_to before (Machine to)))
-
   pub first_taken : (message : Message) → Some (message_view message) ≡ slice_get (waiting_for before (Machine to)) 0
-      → (rest : List law.Message) × (messages_for before to.0 ≡ message_told message ∷ rest) × ((q : ℕ) → messages_for out q ≡ set_at (messages_for before) to.0 rest q)
+      → (rest : List law.Message) × (messages_for before to.0 ≡ message_of (message_view message) ∷ rest) × ((q : ℕ) → messages_for out q ≡ set_at (messages_for before) to.0 rest q)
   first_taken message first =
       let box = outbox_to before (Machine to) in
       let left = first_behind box.messages (message_view message) box.room first in
@@ -83,35 +76,3 @@ module _ (before out : OutboxesView) (to : MachineNo) (behind : out ≡ with_out
       behind
       ∙ ap (λ (b : OutboxView). record before { machines = set before.machines to.0 b }) same
       ∙ (λ i. record before { machines = (set-get_or before.machines to.0 no_outbox) i })
-
--- ---- the machine
-
--- as many outboxes: the machine is in order as it was
-pub order_stays : (m : Core) (out : OutboxesView) → length out.machines ≡ length m.out.machines → IsMachine m → IsMachine (record m { out = out })
-order_stays m out many is = record {
-  locks = is.locks;
-  orderly = record {
-    graph = subst (IsGraphInOrder m.numbers.local) (sym many) is.orderly.graph;
-    numbers = is.orderly.numbers;
-    entered = λ s e at. subst (λ (k : ℕ). HasComeRight m.numbers.local m.pipe k false s e) (sym many) (is.orderly.entered s e at);
-    locks = is.orderly.locks;
-    flights = is.orderly.flights;
-    width = is.orderly.width;
-  };
-  places = record { vertices = is.places.vertices; flags = is.places.flags };
-}
-
-module _ (m : Core) (to : MachineNo) (out : OutboxesView) (behind : out ≡ with_outbox m.out (Machine to) (without_first (outbox_to m.out (Machine to)))) where
-  pub as_many : length out.machines ≡ length m.out.machines
-  as_many = boxes_same m.out out to behind
-
-  pub sent_first : (o : Option Message) → option_map message_view o ≡ slice_get (waiting_for m.out (Machine to)) 0
-      → IfSome o (λ message. HasSentFirst (part_of m) to.0 (message_told message) (part_of (record m { out = out })))
-  sent_first None first = tt
-  sent_first (Some message) first =
-      let taken = first_taken m.out out to behind message first in
-      record { behind = taken.0; first = taken.1; after = λ i. record (part_of m) { out = λ q. taken.2 q i } }
-
-  pub sent_none : (o : Option Message) → option_map message_view o ≡ slice_get (waiting_for m.out (Machine to)) 0 → IfNone o (record m { out = out } ≡ m)
-  sent_none None first = ap (λ (o : OutboxesView). record m { out = o }) (none_taken m.out out to behind first)
-  sent_none (Some message) first = tt

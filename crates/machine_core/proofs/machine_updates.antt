@@ -10,9 +10,6 @@ pub mod StayLemmas
 pub mod SeedLemmas
 pub mod ReceiveLemmas
 pub mod WorkLemmas
-pub mod TurnLemmas
-pub mod BatchLemmas
-pub mod DueLemmas
 pub mod ApartLemmas
 pub mod WordLemmas
 pub mod WholeLemmas

@@ -1,8 +1,3 @@
-pub mod Machines
-pub mod Updates
-pub mod Turns
-pub mod Messages
-pub mod Reading
 pub mod machine_parts
 pub mod lock_release
 pub mod machine_scopes

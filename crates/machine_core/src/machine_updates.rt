@@ -1,7 +1,6 @@
 //! Updates on one machine: ready scopes are taken out as works, updates are committed and told to
 //! the other machines, and word of updates elsewhere is received.
 
-mod batches;
 mod committing;
 mod laws;
 mod receiving;
@@ -10,7 +9,6 @@ mod spares;
 mod telling;
 mod works;
 
-pub use batches::take_batch;
 pub use committing::commit;
 pub use laws::{dones_can_be_learned, works_of_strangers_are_apart};
 pub use receiving::receive_done;

@@ -1,14 +1,25 @@
 -- The ready scopes are looked at in turn.
-use Rattle.std.proofs.Common.{◌≡◌, refl, ◌⊎◌, ℕ, ◌+◌, ◌<◌, ◌≤◌, true, true≢false, Option, Some, None, List, length, get_or, sym, ap, ◌∙◌, subst, arith, inl, inr}
+use Rattle.std.proofs.Common.{◌≡◌, refl, ◌⊎◌, ℕ, zero, suc, ◌+◌, ◌<◌, ◌≤◌, Bool, true, false, true≢false, if◌then◌else◌, Option, Some, None, List, [], ◌∷◌, length, get_or, sym, ap, ◌∙◌, subst, arith, inl, inr}
 use Rattle.std.specs.Prelude.{is_some}
 use Rattle.std.proofs.lemmas.List.{get_or_default}
 use Rattle.gl_base.specs.declared.scopes.ScopeId.{ScopeId}
 use Rattle.gl_base.specs.scope_lists.Found.{by_scope}
+use Rattle.gl_base.specs.scope_lists.Scopes.{is_scope}
 use Rattle.gl_base.proofs.scope_lists.FoundLemmas.{found_place}
+use Rattle.gl_base.proofs.scope_lists.SameScope.{same_scope}
 use Rattle.scope_locks.specs.declared.scope_pipe.flights.Flight.{Flight}
 use Rattle.scope_locks.specs.scope_pipe.Pipes.{flight_scope}
 use Rattle.machine_core.specs.declared.machine_parts.cores.Core.{Core}
 use Rattle.machine_core.specs.machine_turns.Turns.{MayUpdate, part_of}
+
+pub is_found : (es : List Flight) (i : ℕ) (d : Flight) → i < length es → is_some (by_scope flight_scope es (get_or es i d).scope) ≡ true
+is_found [] i d inside = absurd (omega arith)
+is_found (x ∷ es) zero d inside = ap (λ (b : Bool). is_some (if b then Some x else by_scope flight_scope es x.scope)) (same_scope x.scope)
+is_found (x ∷ es) (suc i) d inside = by (is_scope x.scope (get_or es i d).scope) (is_found es i d (omega arith))
+  where
+    by : (b : Bool) → is_some (by_scope flight_scope es (get_or es i d).scope) ≡ true → is_some (if b then Some x else by_scope flight_scope es (get_or es i d).scope) ≡ true
+    by true later = refl
+    by false later = later
 
 -- none of the first so many may make its update
 abbrev pub NoneUpTo : Core → List Flight → ℕ → Type 0

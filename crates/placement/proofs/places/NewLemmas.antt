@@ -9,17 +9,16 @@ use Rattle.cluster_laws.proofs.cluster_core.Nearness.{owner_takes_part, scoped_i
 use Rattle.local_graph.specs.Locals.{LocalView, links_at, sides_at}
 use Rattle.partition.specs.local_parts.Parts.{AreIn, IsLocalOf}
 use Rattle.partition.proofs.local_parts.FoundLemmas.{any_mapped}
-use Rattle.machine_core.proofs.NewLemmas.{new_is}
+use Rattle.machine_core.proofs.NewLemmas.{IsNewMachine, new_is}
 use Rattle.partition.specs.machine_numbers.Views.{datum_here}
 use Rattle.machine_core.specs.declared.machine_parts.cores.Core.{Core}
 use Rattle.machine_core.specs.declared.machine_parts.cores.Terms.{Terms}
-use Rattle.machine_core.specs.machine_parts.Order.{StandByPlace}
+use Rattle.machine_core.specs.machine_parts.Order.{IsOrderly, KnowsPlaces, StandByPlace}
 use Rattle.machine_core.specs.machine_parts.Parts.{is_owned, is_own}
 use Rattle.machine_core.proofs.machine_scopes.HeldLemmas.{own_in}
 use Rattle.placement.proofs.graphs.BeginLemmas.{ghost_listed, listed_is, owned_by}
 use Rattle.machine_core.specs.machine_turns.Turns.{HasEachRow, IsRowIn}
 use Rattle.update_api.specs.declared.links.Link.{Link}
-use Rattle.machine_core.specs.Machines.{IsNewMachine, IsOrderly, KnowsPlaces}
 use Rattle.placement.specs.graphs.Beginnings.{AreFirstNumbers, AreFreshTasks, BeginsAt, IsReadyPart}
 use Rattle.placement.proofs.graphs.BeginLemmas.{owned_few, owned_low}
 use Rattle.placement.specs.places.Cores.{GoesBy, IsMadeWith, IsPartOf, Setting}

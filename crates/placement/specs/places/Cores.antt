@@ -1,6 +1,7 @@
 -- What a new machine is made with, and what a cluster's machines go by.
 pub use Rattle.cluster_laws.specs.cluster_core.Settings.{IsSetting, Setting}
-pub use Rattle.machine_core.specs.Machines.{IsPartOf, part_of}
+pub use Rattle.machine_core.specs.machine_parts.Parts.{part_of}
+pub use Rattle.machine_core.specs.machine_parts.Settings.{IsPartOf}
 use Rattle.std.specs.Prelude.{◌≡◌, ◌==◌, ℕ, [], Option, length}
 use Rattle.std.specs.List.{list_any}
 use Rattle.cluster_laws.specs.cluster_core.Settings.{Locking}

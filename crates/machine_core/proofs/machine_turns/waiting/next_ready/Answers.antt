@@ -4,8 +4,7 @@ use Rattle.std.specs.Prelude.{is_some}
 use Rattle.gl_base.specs.scope_lists.Found.{by_scope}
 use Rattle.scope_locks.specs.declared.scope_pipe.flights.Flight.{Flight}
 use Rattle.scope_locks.specs.scope_pipe.Pipes.{flight_scope}
-use Rattle.machine_core.proofs.machine_updates.DueLemmas.{is_found}
-use Rattle.machine_core.proofs.machine_turns.NextLemmas.{none_at_all}
+use Rattle.machine_core.proofs.machine_turns.NextLemmas.{is_found, none_at_all}
 use Rattle.machine_core.proofs.machine_turns.waiting.next_ready.Goals as goal
 
 abbrev no_flight : Flight

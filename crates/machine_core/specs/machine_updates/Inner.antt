@@ -1,2 +1,0 @@
--- What the clauses of private functions cite. Who reads the public clauses need not read it.
-pub mod Dues
