@@ -6,5 +6,5 @@ mod making;
 mod updating;
 
 pub use finding::{Found, find};
-pub use making::make;
+pub use making::{Stamp, make};
 pub use updating::{refusal, update_at_once};

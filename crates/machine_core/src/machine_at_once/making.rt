@@ -13,15 +13,21 @@ use partition::machine_numbers::{Numbers, Spent};
 use std::alloc::Global;
 use update_api::Program;
 
-/// Makes the update of a task and keeps it under this ticket. For want of memory no number changes.
+/// What an update is known by: the name of its scope, and its ticket.
+#[derive(Clone, Copy)]
+pub struct Stamp {
+    pub scope: ScopeId,
+    pub ticket: u64,
+}
+
+/// Makes the update of a task and keeps it under its ticket. For want of memory no number changes.
 pub fn make<P: Program>(
     alloc: Global,
     numbers: &mut Numbers,
     spares: &mut Spares,
     program: &P,
     found: Found,
-    scope: ScopeId,
-    ticket: u64,
+    stamp: Stamp,
 ) -> Result<(), NoMemory>
     requires waits { WaitsAt numbers.old found.place found.vertex }
     requires can { CanBeMade numbers.old found.vertex }
@@ -29,18 +35,18 @@ pub fn make<P: Program>(
         (length (sides_at numbers.old.local found.vertex.0)) }
     ensures made { OnOk result
         (HasMadeHere (P.meaning program.now) numbers.old numbers.new found.vertex
-        (Go numbers.old.local.me found.vertex ticket)) }
+        (Go numbers.old.local.me found.vertex stamp.ticket)) }
     ensures same { OnErr result (HasSameNumbers numbers.old numbers.new) }
 {
     let version = numbers.datum(found.vertex).version;
     reserve_log(&mut numbers.log, version)?;
     let degree = numbers.local.sides(found.vertex).len();
     let spare = spares.fitted(alloc, degree)?;
-    let work = numbers.take_work(scope, found.vertex, spare);
+    let work = numbers.take_work(stamp.scope, found.vertex, spare);
     match Outcome::in_list(spares.for_outcome(alloc), work) {
         Ok(mut outcome) => {
             outcome.update(program);
-            spares.keep_all(keep(numbers, outcome, found.place, ticket));
+            spares.keep_all(keep(numbers, outcome, found.place, stamp.ticket));
             Ok(())
         }
         Err(work) => {

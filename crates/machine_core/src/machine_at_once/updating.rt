@@ -3,7 +3,7 @@ ghost use Rattle.std.specs.Prelude.{◌≡◌, ℕ, IfOk, OnErr, OnOk, IsErrOf};
 ghost use Rattle.machine_core.specs.machine_at_once.Picks.{CanNotUpdatePick, CanUpdatePick, HasEachRow, HasNoneAtOnce, HasRunAtOnce, HasUpdatedPick, IsOrderly, KnowsPlaces, SameSettings, datum_here, is_own, links_at, part_of};
 
 use crate::machine_at_once::finding::find;
-use crate::machine_at_once::making::make;
+use crate::machine_at_once::making::{Stamp, make};
 use crate::machine_parts::Core;
 use crate::machine_updates::Spares;
 use gl_base::{NoMemory, Refused, Vertex};
@@ -56,15 +56,8 @@ pub fn update_at_once<P: Program>(
         return Err(Refused::NoMemory);
     }
     let scope = core.pipe.next_id();
-    match make(
-        alloc,
-        &mut core.numbers,
-        spares,
-        program,
-        found,
-        scope,
-        ticket,
-    ) {
+    let stamp = Stamp { scope, ticket };
+    match make(alloc, &mut core.numbers, spares, program, found, stamp) {
         Ok(()) => {
             core.pipe.pass();
             Ok(found.vertex)

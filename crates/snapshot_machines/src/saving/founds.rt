@@ -7,7 +7,7 @@ ghost use Rattle.snapshot_machines.specs.saving.Updates.{HasLoggedAtOnce, HasRun
 
 use crate::saving::machines::SnapMachine;
 use gl_base::{Entry, NoMemory};
-use machine_core::machine_at_once::Found;
+use machine_core::machine_at_once::{Found, Stamp};
 use machine_core::machine_parts::Core;
 use machine_core::machine_updates::Spares;
 use std::alloc::Global;
@@ -99,14 +99,14 @@ fn make_found<P: Program>(
         return Err(NoMemory);
     }
     let scope = core.pipe.next_id();
+    let stamp = Stamp { scope, ticket };
     match machine_core::machine_at_once::make(
         alloc,
         &mut core.numbers,
         spares,
         program,
         found,
-        scope,
-        ticket,
+        stamp,
     ) {
         Ok(()) => {
             core.pipe.pass();

@@ -17,12 +17,12 @@ take_work-work-requires-clause-row g c = row_there c.args.numbers.now.local c.ar
 pub update-requires-clause-row : goal.update-requires-clause-row
 update-requires-clause-row g c =
     let roomy : Numbers = record c.args.numbers.now { log = c.reserve_log.new.log } in
-    row_lent roomy c.take_work-work.new.self c.args.scope c.args.found.vertex c.take_work-work.result c.take_work-work.ensures c.requires.row c.in-Ok.outcome c.in-Ok.ensures.work
+    row_lent roomy c.take_work-work.new.self c.args.stamp.scope c.args.found.vertex c.take_work-work.result c.take_work-work.ensures c.requires.row c.in-Ok.outcome c.in-Ok.ensures.work
 
 pub update-requires-clause-edges : goal.update-requires-clause-edges
 update-requires-clause-edges g c =
     let roomy : Numbers = record c.args.numbers.now { log = c.reserve_log.new.log } in
-    edges_lent roomy c.take_work-work.new.self c.args.scope c.args.found.vertex c.take_work-work.result c.take_work-work.ensures c.requires.row c.in-Ok.outcome c.in-Ok.ensures.work c.in-Ok.ensures.edges
+    edges_lent roomy c.take_work-work.new.self c.args.stamp.scope c.args.found.vertex c.take_work-work.result c.take_work-work.ensures c.requires.row c.in-Ok.outcome c.in-Ok.ensures.work c.in-Ok.ensures.edges
 
 pub keep-requires : goal.keep-requires
 keep-requires g c =
@@ -30,7 +30,7 @@ keep-requires g c =
     let roomy : Numbers = record n { log = c.reserve_log.new.log } in
     let v = c.args.found.vertex in
     let room = c.in_ok-reserve_log.ensures in
-    can_keep roomy c.take_work-work.new.self c.args.scope v c.take_work-work.result c.take_work-work.ensures c.requires.row c.update.new.self (c.update.ensures.work ∙ c.in-Ok.ensures.work)
+    can_keep roomy c.take_work-work.new.self c.args.stamp.scope v c.take_work-work.result c.take_work-work.ensures c.requires.row c.update.new.self (c.update.ensures.work ∙ c.in-Ok.ensures.work)
     c.args.found.place (waits_room n roomy c.args.found.place v refl c.requires.waits) (can_room n roomy v refl room.items c.requires.can)
     (c.update.ensures.many ∙ ap length c.in-Ok.ensures.edges) room.room room.few
     (subst (λ (d : Datum). d.version < 4294967295) c.datum-version.ensures room.version)
@@ -50,25 +50,25 @@ returns-in-Ok-clause-made g c =
     let me = ap (λ (k : Numbers). k.local.me) taken.rest in
     let vertex = ap (λ (w : Work). w.vertex) same ∙ taken.vertex in
     let made = made_of_work (g.P.Program.meaning c.args.program.now) c.take_work-work.result c.in-Ok.outcome o first.work first.value first.edges done.work done.number done.marks done.woken in
-    made_here n roomy out new c.args.scope v c.take_work-work.result refl c.in_ok-reserve_log.ensures.items taken
-    (g.P.Program.meaning c.args.program.now) o (Go n.local.me v c.args.ticket) same made c.requires.waits.own
-    (subst (λ (e : Entry). HasUpdated out new o e) (λ i. Go (me i) (vertex i) c.args.ticket) c.keep.ensures.updated)
+    made_here n roomy out new c.args.stamp.scope v c.take_work-work.result refl c.in_ok-reserve_log.ensures.items taken
+    (g.P.Program.meaning c.args.program.now) o (Go n.local.me v c.args.stamp.ticket) same made c.requires.waits.own
+    (subst (λ (e : Entry). HasUpdated out new o e) (λ i. Go (me i) (vertex i) c.args.stamp.ticket) c.keep.ensures.updated)
     c.keep.ensures.own c.keep.ensures.back c.keep.ensures.edges c.keep.ensures.local c.keep.ensures.ghosts c.keep.ensures.run
 
 pub put_back-requires-clause-own : goal.put_back-requires-clause-own
 put_back-requires-clause-own g c =
     let roomy : Numbers = record c.args.numbers.now { log = c.reserve_log.new.log } in
-    back_own roomy c.take_work-work.new.self c.args.scope c.args.found.vertex c.take_work-work.result c.take_work-work.ensures c.in-Err.work c.in-Err.ensures.back c.requires.waits.own
+    back_own roomy c.take_work-work.new.self c.args.stamp.scope c.args.found.vertex c.take_work-work.result c.take_work-work.ensures c.in-Err.work c.in-Err.ensures.back c.requires.waits.own
 
 pub put_back-requires-clause-links : goal.put_back-requires-clause-links
 put_back-requires-clause-links g c =
     let roomy : Numbers = record c.args.numbers.now { log = c.reserve_log.new.log } in
-    back_links roomy c.take_work-work.new.self c.args.scope c.args.found.vertex c.take_work-work.result c.take_work-work.ensures c.in-Err.work c.in-Err.ensures.back
+    back_links roomy c.take_work-work.new.self c.args.stamp.scope c.args.found.vertex c.take_work-work.result c.take_work-work.ensures c.in-Err.work c.in-Err.ensures.back
 
 pub put_back-requires-clause-numbers : goal.put_back-requires-clause-numbers
 put_back-requires-clause-numbers g c =
     let roomy : Numbers = record c.args.numbers.now { log = c.reserve_log.new.log } in
-    back_numbers roomy c.take_work-work.new.self c.args.scope c.args.found.vertex c.take_work-work.result c.take_work-work.ensures c.in-Err.work c.in-Err.ensures.back
+    back_numbers roomy c.take_work-work.new.self c.args.stamp.scope c.args.found.vertex c.take_work-work.result c.take_work-work.ensures c.in-Err.work c.in-Err.ensures.back
 
 pub returns-in-Err-clause-same : goal.returns-in-Err-clause-same
 returns-in-Err-clause-same g c =
@@ -76,7 +76,7 @@ returns-in-Err-clause-same g c =
     let roomy : Numbers = record n { log = c.reserve_log.new.log } in
     let out = c.take_work-work.new.self in
     let new = c.put_back.new.self in
-    same_numbers n roomy out new c.args.scope c.args.found.vertex c.take_work-work.result refl c.in_ok-reserve_log.ensures.items c.take_work-work.ensures
+    same_numbers n roomy out new c.args.stamp.scope c.args.found.vertex c.take_work-work.result refl c.in_ok-reserve_log.ensures.items c.take_work-work.ensures
     (subst (λ (w : Work). (x : ℕ) → links_at new.local x ≡ (if x == w.vertex.0 then Some w.row.links.items else links_at out.local x)) c.in-Err.ensures.back c.put_back.ensures.back)
     c.put_back.ensures.edge c.put_back.ensures.many_edges c.put_back.ensures.rest
 
