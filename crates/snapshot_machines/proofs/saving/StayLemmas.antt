@@ -24,7 +24,12 @@ use Rattle.snapshot_machines.specs.marking.Hearing.{HasFewerOutside}
 use Rattle.snapshot_machines.specs.marking.Marking.{HasSavedMore}
 use Rattle.snapshot_machines.specs.marking.Seeding.{HasOtherPending}
 use Rattle.snapshot_machines.proofs.marking.LearnLemmas.{known_grows, most_grows}
-use Rattle.snapshot_machines.specs.saving.Machines.{AreMarkedBelow, AreMarksUpTo, HasEachRow, IsFreshMachine, IsOrderly, IsSnapMachine, KnowsPlaces, SameSettings, SnapView, is_own, outside_of}
+use Rattle.snapshot_machines.specs.saving.Machines.{AreMarkedBelow, AreMarksUpTo, HasEachRow, IsBetweenCalls, IsFreshMachine, IsOrderly, IsSnapMachine, KnowsPlaces, SameSettings, SnapView, is_own, outside_of}
+
+-- ---- between calls
+
+pub in_order : (m : Core) (w : SnapView) (seen : ℕ) → IsSnapMachine m w seen → IsBetweenCalls m w
+in_order m w seen is = record { orderly = is.orderly; places = is.places; rows = is.rows; outside = is.outside }
 
 -- ---- a new machine
 

@@ -29,6 +29,13 @@ pub record IsSnapMachine (m : Core) (w : SnapView) (seen : ℕ) : Type 0 where
   pub most : AreMarksUpTo m.numbers w.known
   pub outside : m.numbers.tasks.outside ≡ outside_of w
 
+-- The machine is in order, each row is in, and the tasks count the updates outside: so it is between its calls.
+pub record IsBetweenCalls (m : Core) (w : SnapView) : Type 0 where
+  pub orderly : IsOrderly m
+  pub places : KnowsPlaces m
+  pub rows : HasEachRow m.numbers.local
+  pub outside : m.numbers.tasks.outside ≡ outside_of w
+
 -- a machine that has made no update since the snapshot with which the run began, and whose vertices have its mark
 pub record IsFreshMachine (m : Core) : Type 0 where
   pub orderly : IsOrderly m

@@ -2,6 +2,7 @@
 ghost use Rattle.std.specs.Prelude.{◌≡◌, IfNone, IfOk, IfSome, OnErr, IsErrOf};
 ghost use Rattle.snapshot_machines.specs.chromatic.Admitting.{CanAdmitByColour, HasAdmittedByColour, MayAdmitNoneByColour, next_id};
 ghost use Rattle.snapshot_machines.specs.chromatic.Machines.{IsInSameStep};
+ghost use Rattle.snapshot_machines.specs.saving.Machines.{IsBetweenCalls};
 ghost use Rattle.snapshot_machines.specs.chromatic.Inner.Picking.{IsDueInStep, IsNoneDueInStep};
 
 use crate::chromatic::machines::ColorSnapMachine;
@@ -23,7 +24,6 @@ impl<P: Program> ColorSnapMachine<P> {
         ensures kept { self.new.kept ≡ self.old.kept }
         ensures step { IsInSameStep self.old self.new }
     {
-        let _before = self.machine.core();
         if self.closed {
             return Err(Refused::NotNow);
         }
@@ -46,6 +46,7 @@ impl<P: Program> ColorSnapMachine<P> {
     pub(crate) fn due(&self) -> Option<Pick>
         ensures some { IfSome result (λ pick. IsDueInStep self.now pick) }
         ensures none { IfNone result (IsNoneDueInStep self.now) }
+        ensures order { IfNone result (IsBetweenCalls self.now.core self.now.kept) }
     {
         if let Some(vertex) = self.asked.first(self.colour) {
             return Some(Pick {

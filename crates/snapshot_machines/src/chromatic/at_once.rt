@@ -4,6 +4,7 @@ ghost use Rattle.coordinator.specs.snap_update.Snaps.{IsSameButRoom};
 ghost use Rattle.snapshot_machines.specs.chromatic.AtOnce.{CanUpdateByColour, HasLoggedAtOnce, HasNoneByColour, HasRunAtOnce, HasUpdatedByColour};
 ghost use Rattle.snapshot_machines.specs.chromatic.Machines.{IsInSameStep, part_of_steps};
 ghost use Rattle.snapshot_machines.specs.chromatic.Inner.Picking.{IsFoundInStep};
+ghost use Rattle.snapshot_machines.specs.saving.Machines.{IsBetweenCalls};
 
 use crate::chromatic::machines::ColorSnapMachine;
 use gl_base::{NoMemory, Refused, Vertex};
@@ -32,6 +33,7 @@ impl<P: Program> ColorSnapMachine<P> {
             let new = self.new.core.numbers.local in
             new ≡ record old { kept = new.kept; rows = new.rows; numbers = new.numbers } }
         ensures step { IsInSameStep self.old self.new }
+        ensures order { IsBetweenCalls self.old.core self.old.kept }
     {
         let Some(found) = self.find_at_once() else {
             return Err(Refused::NotNow);
@@ -46,6 +48,7 @@ impl<P: Program> ColorSnapMachine<P> {
     pub fn refusal_at_once(&self) -> Refused
         ensures not_now { result ≡ Refused.NotNow → HasNoneByColour self.now }
         ensures no_memory { result ≡ Refused.NoMemory → CanUpdateByColour self.now }
+        ensures order { IsBetweenCalls self.now.core self.now.kept }
     {
         match self.find_at_once() {
             Some(_) => Refused::NoMemory,
@@ -57,6 +60,7 @@ impl<P: Program> ColorSnapMachine<P> {
     pub(crate) fn find_at_once(&self) -> Option<Found>
         ensures found { IfSome result (λ f. IsFoundInStep self.now f) }
         ensures none { IfNone result (HasNoneByColour self.now) }
+        ensures order { IsBetweenCalls self.now.core self.now.kept }
     {
         let core = self.machine.core();
         if self.closed {

@@ -5,6 +5,7 @@ ghost use Rattle.snapshot_machines.specs.chromatic.AtOnce.{HasLoggedAtOnce, HasN
 ghost use Rattle.snapshot_machines.specs.chromatic.Eager.{FindsInStep};
 ghost use Rattle.snapshot_machines.specs.chromatic.Machines.{IsInSameStep, part_of_steps};
 ghost use Rattle.snapshot_machines.specs.chromatic.Inner.Picking.{IsFoundInStep};
+ghost use Rattle.snapshot_machines.specs.saving.Machines.{IsBetweenCalls};
 
 use crate::chromatic::machines::ColorSnapMachine;
 use gl_base::{NoMemory, Vertex};
@@ -17,6 +18,7 @@ impl<P: Program> ColorSnapMachine<P> {
     pub fn next_at_once(&self) -> Option<Vertex>
         ensures found { IfSome result (λ v. FindsInStep self.now v) }
         ensures none { IfNone result (HasNoneByColour self.now) }
+        ensures order { IsBetweenCalls self.now.core self.now.kept }
     {
         match self.find_at_once() {
             Some(found) => Some(found.vertex),
@@ -40,6 +42,7 @@ impl<P: Program> ColorSnapMachine<P> {
             let new = self.new.core.numbers.local in
             new ≡ record old { kept = new.kept; rows = new.rows; numbers = new.numbers } }
         ensures step { IsInSameStep self.old self.new }
+        ensures order { IsBetweenCalls self.old.core self.old.kept }
     {
         let place = self.machine.place_of(v);
         self.update_found(Found { place, vertex: v }, ticket)
@@ -62,8 +65,8 @@ impl<P: Program> ColorSnapMachine<P> {
             let new = self.new.core.numbers.local in
             new ≡ record old { kept = new.kept; rows = new.rows; numbers = new.numbers } }
         ensures step { IsInSameStep self.old self.new }
+        ensures order { IsBetweenCalls self.old.core self.old.kept }
     {
-        let _before = self.machine.core();
         match self.machine.update_found(found, ticket) {
             Ok(()) => {
                 self.lines.remove(found.place);

@@ -5,6 +5,7 @@ ghost use Rattle.coordinator.specs.snap_update.Snaps.{IsSameButRoom, own_section
 ghost use Rattle.snapshot_machines.specs.chromatic.Machines.{IsInSameStep, part_of_steps};
 ghost use Rattle.snapshot_machines.specs.chromatic.Snapshots.{CanHearNews, HasBegunInStep, HasEndedPlan, HasFewerOutside, HasHeardNews, HasMarkedInStep, HasOnlyMadeRoom, HasOtherPending, HasSavedMore, HasSavedOnce, MayMark, MayNotSendInStep, MaySendInStep};
 ghost use Rattle.snapshot_machines.specs.chromatic.Inner.Keeping.{HasFirstInLine};
+ghost use Rattle.snapshot_machines.specs.saving.Machines.{IsBetweenCalls};
 
 use crate::chromatic::machines::ColorSnapMachine;
 use crate::chromatic::updates::centre_of;
@@ -23,7 +24,6 @@ impl<P: Program> ColorSnapMachine<P> {
         ensures rest { HasOtherPending self.old.core self.new.core }
         ensures step { IsInSameStep self.old self.new }
     {
-        let _before = self.machine.core();
         self.machine.begin(number);
         enlist_first(&mut self.asked, &self.machine.core().numbers.tasks);
     }
@@ -60,7 +60,6 @@ impl<P: Program> ColorSnapMachine<P> {
         enlist_all(&mut self.lines, &begun.numbers, &done.wakes, Which::All);
         enlist_all(&mut self.asked, &begun.numbers, &done.pends, Which::All);
         self.machine.learn(done);
-        let _learned = self.machine.core();
     }
 
     /// Makes the snapshot update of a scope that is in flight here, whose vertex is pending. Those
@@ -102,6 +101,7 @@ impl<P: Program> ColorSnapMachine<P> {
     pub fn can_mark(&self, scope: ScopeId) -> bool
         ensures yes { result ≡ true → MayMark scope (part_of_steps self.now) }
         ensures no { result ≡ false → MayMark scope (part_of_steps self.now) → ⊥ }
+        ensures order { IsBetweenCalls self.now.core self.now.kept }
     {
         self.machine.can_mark(scope)
     }

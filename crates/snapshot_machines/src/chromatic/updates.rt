@@ -5,6 +5,7 @@ ghost use Rattle.coordinator.specs.snap_update.Snaps.{IsSameButRoom, asked_behin
 ghost use Rattle.snapshot_machines.specs.chromatic.Machines.{IsInSameStep, part_of_steps};
 ghost use Rattle.snapshot_machines.specs.chromatic.Updating.{HasLogged, HasRunOf, HasUpdatedInColour, MayUpdate};
 ghost use Rattle.scope_locks.specs.scope_pipe.Pipes.{flight_at};
+ghost use Rattle.snapshot_machines.specs.saving.Machines.{IsBetweenCalls};
 
 use crate::chromatic::machines::ColorSnapMachine;
 use gl_base::{Refused, ScopeId, Vertex};
@@ -53,6 +54,7 @@ impl<P: Program> ColorSnapMachine<P> {
     pub fn can_update(&self, scope: ScopeId) -> bool
         ensures yes { result ≡ true → MayUpdate scope (part_of_steps self.now) 1 }
         ensures no { result ≡ false → MayUpdate scope (part_of_steps self.now) 1 → ⊥ }
+        ensures order { IsBetweenCalls self.now.core self.now.kept }
     {
         self.machine.can_update(scope)
     }

@@ -11,7 +11,6 @@ impl<P: Program> EagerMachine for LockingMachine<P> {
     ghost finds = { FindsPick };
 
     fn next_at_once(&self) -> Option<Vertex> {
-        let _core = self.machine.core();
         match self.machine.find_at_once() {
             Some(found) => Some(found.vertex),
             None => None,
@@ -19,7 +18,6 @@ impl<P: Program> EagerMachine for LockingMachine<P> {
     }
 
     fn update_now(&mut self, v: Vertex, ticket: u64) -> Result<(), NoMemory> {
-        let _core = self.machine.core();
         self.reports.reserve()?;
         let place = self.machine.place_of(v);
         self.machine

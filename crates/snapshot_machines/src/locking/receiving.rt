@@ -59,7 +59,6 @@ impl<P: Program> LockingMachine<P> {
         ensures unchanged { OnErr result
             (StandsStill (IsLockingMachineOf P.meaning) self.old self.new) }
     {
-        let _core = self.machine.core();
         match self.machine.receive_ask(scope, centre, rest) {
             Ok(()) => {
                 self.counts.add_received();
@@ -82,7 +81,6 @@ impl<P: Program> LockingMachine<P> {
         ensures { HasReceived (IsLockingMachineOf P.meaning) self.old from.0
             (Message.Ready scope) self.new }
     {
-        let _core = self.machine.core();
         self.machine.receive_ready(scope);
         self.counts.add_received();
     }
@@ -94,7 +92,6 @@ impl<P: Program> LockingMachine<P> {
         ensures { HasReceived (IsLockingMachineOf P.meaning) self.old from.0
             (Message.Done done) self.new }
     {
-        let _core = self.machine.core();
         self.machine.learn(done);
         self.counts.add_received();
     }

@@ -20,7 +20,6 @@ impl<P: Program> LockingMachine<P> {
         ensures unchanged { OnErr result
             (StandsStill (IsLockingMachineOf P.meaning) self.old self.new) }
     {
-        let _core = self.machine.core();
         self.machine.mark(scope)
     }
 

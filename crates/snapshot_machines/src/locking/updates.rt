@@ -24,7 +24,6 @@ impl<P: Program> LockingMachine<P> {
         ensures unchanged { OnErr result
             (StandsStill (IsLockingMachineOf P.meaning) self.old self.new) }
     {
-        let _core = self.machine.core();
         if !self.machine.can_update(scope) {
             return Err(Refused::NotNow);
         }
@@ -53,7 +52,6 @@ impl<P: Program> LockingMachine<P> {
         ensures unchanged { OnErr result
             (StandsStill (IsLockingMachineOf P.meaning) self.old self.new) }
     {
-        let _core = self.machine.core();
         if self.reports.reserve().is_err() {
             return Err(self.machine.refusal_at_once());
         }

@@ -2,6 +2,7 @@
 ghost use Rattle.std.specs.Prelude.{IfNone, IfSome};
 ghost use Rattle.machine_core.specs.machine_at_once.Picks.{HasNoneAtOnce};
 ghost use Rattle.machine_core.specs.machine_at_once.Inner.Finding.{IsFoundPick};
+ghost use Rattle.snapshot_machines.specs.saving.Machines.{IsBetweenCalls};
 ghost use Rattle.snapshot_machines.specs.saving.Updates.{WaitsAt};
 
 use crate::saving::machines::SnapMachine;
@@ -14,6 +15,7 @@ impl<P: Program> SnapMachine<P> {
     pub fn find_at_once(&self) -> Option<Found>
         ensures found { IfSome result (λ f. IsFoundPick self.now.core f) }
         ensures none { IfNone result (HasNoneAtOnce self.now.core) }
+        ensures order { IsBetweenCalls self.now.core self.now.kept }
     {
         machine_core::machine_at_once::find(&self.core)
     }

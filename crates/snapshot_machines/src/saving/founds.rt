@@ -2,7 +2,7 @@
 ghost use Rattle.std.specs.Prelude.{◌≡◌, ℕ, OnErr, OnOk};
 ghost use Rattle.machine_core.specs.machine_at_once.Picks.{HasEachRow, IsOrderly, KnowsPlaces, datum_here, is_own};
 ghost use Rattle.coordinator.specs.snap_update.Snaps.{IsSameButRoom};
-ghost use Rattle.snapshot_machines.specs.saving.Machines.{SameSettings, part_of};
+ghost use Rattle.snapshot_machines.specs.saving.Machines.{IsBetweenCalls, SameSettings, part_of};
 ghost use Rattle.snapshot_machines.specs.saving.Updates.{HasLoggedAtOnce, HasRunAtOnce, HasUpdatedFound, WaitsAt};
 
 use crate::saving::machines::SnapMachine;
@@ -38,6 +38,7 @@ impl<P: Program> SnapMachine<P> {
         ensures places { self.new.core.by_place ≡ self.old.core.by_place }
         ensures terms { self.new.core.terms ≡ self.old.core.terms }
         ensures settings { SameSettings self.old.core self.new.core }
+        ensures order { IsBetweenCalls self.old.core self.old.kept }
     {
         if self.snaps.reserve().is_err() {
             return Err(NoMemory);

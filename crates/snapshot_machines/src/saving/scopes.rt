@@ -4,7 +4,7 @@ ghost use Rattle.machine_core.specs.machine_scopes.Admitting.{CanAdmitPick, HasA
 ghost use Rattle.machine_core.specs.machine_scopes.Asking.{AreMachinesFor, Ask, CanBecomeReady, HasOnlyMadeRoom, HasReceivedMessage, IsNewAt, Ready, come, machine_numbers};
 ghost use Rattle.machine_core.specs.machine_scopes.Granting.{HasGrantedLock, MayGrantLock, MayNotGrantLock, WaitsFirst, WantedNext};
 ghost use Rattle.machine_core.specs.step_scopes.Admitting.{CanTake, HasAdmittedInStep, HasPlaceInFlight};
-ghost use Rattle.snapshot_machines.specs.saving.Machines.{SameSettings, part_of};
+ghost use Rattle.snapshot_machines.specs.saving.Machines.{IsBetweenCalls, IsOrderly, SameSettings, part_of};
 
 use crate::saving::machines::SnapMachine;
 use gl_base::{MachineNo, NoMemory, Refused, ScopeId, Vertex};
@@ -26,6 +26,7 @@ impl<P: Program> SnapMachine<P> {
         ensures program { self.new.program ≡ self.old.program }
         ensures terms { self.new.core.terms ≡ self.old.core.terms }
         ensures settings { SameSettings self.old.core self.new.core }
+        ensures order { IsBetweenCalls self.old.core self.old.kept }
     {
         machine_core::machine_scopes::admit(self.alloc, &mut self.core)
     }
@@ -51,6 +52,7 @@ impl<P: Program> SnapMachine<P> {
         ensures kept { self.new.kept ≡ self.old.kept }
         ensures program { self.new.program ≡ self.old.program }
         ensures settings { SameSettings self.old.core self.new.core }
+        ensures order { IsBetweenCalls self.old.core self.old.kept }
     {
         machine_core::step_scopes::admit_in_step(&mut self.core, place, snapshot)
     }
@@ -94,8 +96,9 @@ impl<P: Program> SnapMachine<P> {
         rest: Vec<MachineNo>,
     ) -> Result<(), Vec<MachineNo>>
         requires locks { self.old.core.terms.locks ≡ true }
-        requires is_new { IsNewAt self.old.core scope centre }
-        requires machines { AreMachinesFor self.old.core scope rest.items }
+        requires is_new { IsOrderly self.old.core → IsNewAt self.old.core scope centre }
+        requires machines { IsOrderly self.old.core →
+            AreMachinesFor self.old.core scope rest.items }
         ensures place { OnOk result (come self.old.core.pipe < 4096) }
         ensures received { OnOk result
             (HasReceivedMessage self.old.core self.new.core
@@ -114,7 +117,7 @@ impl<P: Program> SnapMachine<P> {
 
     /// Word has come that a scope of this home has all its locks: it is ready. It takes no memory.
     pub fn receive_ready(&mut self, scope: ScopeId)
-        requires { CanBecomeReady self.old.core scope }
+        requires { IsOrderly self.old.core → CanBecomeReady self.old.core scope }
         ensures received { HasReceivedMessage self.old.core self.new.core (Ready scope) }
         ensures numbers { self.new.core.numbers ≡ self.old.core.numbers }
         ensures kept { self.new.kept ≡ self.old.kept }

@@ -1,5 +1,5 @@
 //! What the machine does of snapshots.
-ghost use Rattle.std.specs.Prelude.{◌≡◌, true, false, IfNone, IfOk, IfSome, OnOk, OnErr, IsErrOf};
+ghost use Rattle.std.specs.Prelude.{◌≡◌, true, false, length, IfNone, IfOk, IfSome, OnOk, OnErr, IsErrOf};
 ghost use Rattle.gl_base.specs.declared.scopes.ScopeId.{ScopeId};
 ghost use Rattle.snapshot_machines.specs.marking.Hearing.{HasBegun, HasFewerOutside};
 ghost use Rattle.snapshot_machines.specs.marking.Learning.{CanLearnNews, HasLearnedNews};
@@ -7,7 +7,7 @@ ghost use Rattle.snapshot_machines.specs.marking.Marking.{HasEndedPlan, HasMarke
 ghost use Rattle.snapshot_machines.specs.marking.Seeding.{HasOtherPending};
 ghost use Rattle.snapshot_machines.specs.marking.Sending.{MayNotSendSection, MaySendSection};
 ghost use Rattle.coordinator.specs.snap_update.Snaps.{IsSameButRoom, own_section, section_view, with_begun, with_committed, with_section};
-ghost use Rattle.snapshot_machines.specs.saving.Machines.{SameSettings, part_of};
+ghost use Rattle.snapshot_machines.specs.saving.Machines.{IsBetweenCalls, IsOrderly, SameSettings, part_of};
 
 use crate::saving::machines::SnapMachine;
 use gl_base::{Refused, ScopeId};
@@ -23,6 +23,7 @@ impl<P: Program> SnapMachine<P> {
         ensures program { self.new.program ≡ self.old.program }
         ensures terms { self.new.core.terms ≡ self.old.core.terms }
         ensures settings { SameSettings self.old.core self.new.core }
+        ensures order { IsBetweenCalls self.old.core self.old.kept }
     {
         crate::marking::begin(&mut self.core, &mut self.snaps, &mut self.seen, number);
     }
@@ -42,7 +43,7 @@ impl<P: Program> SnapMachine<P> {
 
     /// Word of an update elsewhere has come, be it a snapshot update or not. It takes no memory.
     pub fn learn(&mut self, done: Done)
-        requires { CanLearnNews self.old.core done }
+        requires { IsOrderly self.old.core → CanLearnNews self.old.core done }
         ensures learned { HasLearnedNews self.old.core self.old.kept
             self.new.core self.new.kept done }
         ensures kept { IsSameButRoom (with_begun done.number self.old.kept) self.new.kept }
@@ -58,6 +59,9 @@ impl<P: Program> SnapMachine<P> {
         ensures places { self.new.core.by_place ≡ self.old.core.by_place }
         ensures terms { self.new.core.terms ≡ self.old.core.terms }
         ensures settings { SameSettings self.old.core self.new.core }
+        ensures many { let old = self.old.core.numbers.tasks in
+            length self.new.core.numbers.tasks.task ≡ length old.task }
+        ensures order { IsBetweenCalls self.old.core self.old.kept }
     {
         crate::marking::learn(
             self.alloc,
@@ -88,6 +92,7 @@ impl<P: Program> SnapMachine<P> {
         ensures places { self.new.core.by_place ≡ self.old.core.by_place }
         ensures terms { self.new.core.terms ≡ self.old.core.terms }
         ensures settings { SameSettings self.old.core self.new.core }
+        ensures order { IsBetweenCalls self.old.core self.old.kept }
     {
         crate::marking::mark(
             self.alloc,
@@ -102,6 +107,7 @@ impl<P: Program> SnapMachine<P> {
     pub fn can_mark(&self, scope: ScopeId) -> bool
         ensures yes { result ≡ true → MayMark scope (part_of self.now.core) }
         ensures no { result ≡ false → MayMark scope (part_of self.now.core) → ⊥ }
+        ensures order { IsBetweenCalls self.now.core self.now.kept }
     {
         crate::marking::may_mark(&self.core, scope)
     }

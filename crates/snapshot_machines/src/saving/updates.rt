@@ -4,7 +4,7 @@ ghost use Rattle.gl_base.specs.declared.scopes.ScopeId.{ScopeId};
 ghost use Rattle.machine_core.specs.machine_at_once.Picks.{CanUpdatePick, HasNoneAtOnce, HasRunAtOnce, HasUpdatedPick};
 ghost use Rattle.machine_core.specs.machine_turns.Turns.{HasMadeUpdate, HasRunOf, MayUpdate, flight_at, pending_here, task_here};
 ghost use Rattle.coordinator.specs.snap_update.Snaps.{IsSameButRoom, asked_behind, with_asking};
-ghost use Rattle.snapshot_machines.specs.saving.Machines.{SameSettings, part_of};
+ghost use Rattle.snapshot_machines.specs.saving.Machines.{IsBetweenCalls, SameSettings, part_of};
 ghost use Rattle.snapshot_machines.specs.saving.Updates.{HasLogged, HasLoggedAtOnce};
 
 use crate::saving::machines::SnapMachine;
@@ -88,6 +88,7 @@ impl<P: Program> SnapMachine<P> {
         ensures program { self.new.program ≡ self.old.program }
         ensures terms { self.new.core.terms ≡ self.old.core.terms }
         ensures settings { SameSettings self.old.core self.new.core }
+        ensures order { IsBetweenCalls self.old.core self.old.kept }
     {
         if self.snaps.reserve().is_err() {
             return Err(machine_core::machine_at_once::refusal(&self.core));
@@ -116,6 +117,7 @@ impl<P: Program> SnapMachine<P> {
     pub fn refusal_at_once(&self) -> Refused
         ensures not_now { result ≡ Refused.NotNow → HasNoneAtOnce self.now.core }
         ensures no_memory { result ≡ Refused.NoMemory → CanUpdatePick self.now.core }
+        ensures order { IsBetweenCalls self.now.core self.now.kept }
     {
         machine_core::machine_at_once::refusal(&self.core)
     }
@@ -124,6 +126,7 @@ impl<P: Program> SnapMachine<P> {
     pub fn can_update(&self, scope: ScopeId) -> bool
         ensures yes { result ≡ true → MayUpdate scope (part_of self.now.core) 1 }
         ensures no { result ≡ false → MayUpdate scope (part_of self.now.core) 1 → ⊥ }
+        ensures order { IsBetweenCalls self.now.core self.now.kept }
     {
         centre_to_update(&self.core, scope).is_some()
     }

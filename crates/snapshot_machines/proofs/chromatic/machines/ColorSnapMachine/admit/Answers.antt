@@ -7,6 +7,7 @@ use Rattle.snapshot_machines.specs.chromatic.Inner.Keeping.{seen_in_steps}
 use Rattle.snapshot_machines.specs.chromatic.Inner.Picking.{IsDueInStep, IsNoneDueInStep}
 use Rattle.snapshot_machines.proofs.chromatic.AdmitLemmas.{admits_none, can_admit, admitted_by_colour, taken_both, taken_without_locks}
 use Rattle.snapshot_machines.proofs.chromatic.KeepLemmas.{kept_on, same_step}
+use Rattle.snapshot_machines.specs.saving.Machines.{IsBetweenCalls}
 use Rattle.snapshot_machines.proofs.chromatic.machines.ColorSnapMachine.admit.Goals as goal
 
 pub invariant_of-self : goal.invariant_of-self
@@ -16,7 +17,7 @@ invariant_of-self g c =
     let e = c.in-Ok.ensures in
     let x = seen_in_steps m.machine m.lines.colours m.colour m.closed in
     let due = subst (λ (y : ColorSnapView g.row.P.Denot). IsDueInStep y c.in-Some.pick) (sym c.self.view_is) c.in-Some.ensures.some in
-    let places = c.core-before.ensures.places in
+    let places = c.admit_in_step.ensures.order.places in
     let lines = c.remove.new.self in
     let asked = c.remove-in-Ok.new.self in
     kept_on g.P.Program.meaning x (seen_in_steps c.admit_in_step.new.self lines.colours m.colour m.closed) m.lines m.asked lines asked is
@@ -30,19 +31,19 @@ returns-in-Ok-clause-admitted g c =
     let e = c.in-Ok.ensures in
     let x = seen_in_steps m.machine m.lines.colours m.colour m.closed in
     let due = subst (λ (y : ColorSnapView g.row.P.Denot). IsDueInStep y c.in-Some.pick) (sym c.self.view_is) c.in-Some.ensures.some in
-    let before = c.core-before.ensures in
+    let before = c.admit_in_step.ensures.order in
     rw (← c.self.view_is) (admitted_by_colour x c.admit_in_step.new.self c.in-Some.pick before.places due e.admitted c.remove.new.self.colours before.orderly c.if-self.false e.kept)
 
 pub returns-in_default-clause-not_now : goal.returns-in_default-clause-not_now
 returns-in_default-clause-not_now g c =
     let m = c.self.inside in
     let none = subst (λ (y : ColorSnapView g.row.P.Denot). IsNoneDueInStep y) (sym c.self.view_is) c.in_default.ensures.none in
-    let before = c.core-before.ensures in
+    let before = subst (λ (y : ColorSnapView g.row.P.Denot). IsBetweenCalls y.core y.kept) (sym c.self.view_is) c.in_default.ensures.order in
     rw (← c.self.view_is) (λ is. admits_none (seen_in_steps m.machine m.lines.colours m.colour m.closed) before.orderly before.places none)
 
 pub returns-in-Err-clause-no_memory : goal.returns-in-Err-clause-no_memory
 returns-in-Err-clause-no_memory g c =
     let m = c.self.inside in
     let due = subst (λ (y : ColorSnapView g.row.P.Denot). IsDueInStep y c.in-Some.pick) (sym c.self.view_is) c.in-Some.ensures.some in
-    let before = c.core-before.ensures in
+    let before = c.admit_in_step.ensures.order in
     rw (← c.self.view_is) (λ is. can_admit (seen_in_steps m.machine m.lines.colours m.colour m.closed) before.orderly before.places c.if-self.false c.in-Some.pick due)

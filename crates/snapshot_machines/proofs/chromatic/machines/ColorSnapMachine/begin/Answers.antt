@@ -13,7 +13,7 @@ invariant_of-self g c =
     let is = c.self.invariant in
     let e = c.begin.ensures in
     let first = subst (λ (n : Core). HasFirstInLine n.numbers.tasks m.asked c.enlist_first.new.asked) c.core.ensures.parts c.enlist_first.ensures in
-    let order = c.core-before.ensures in
+    let order = c.begin.ensures.order in
     let x = seen_in_steps m.machine m.lines.colours m.colour m.closed in
     let here = is.setting.part.part in
     kept_on g.P.Program.meaning x (seen_in_steps c.begin.new.self m.lines.colours m.colour m.closed) m.lines m.asked m.lines c.enlist_first.new.asked is

@@ -25,3 +25,8 @@ returns-then-not-has_room-clause-none g c =
     let m = c.self.inside in
     rw (← c.self.view_is) (none_without_room (seen_in_steps m.machine m.lines.colours m.colour m.closed) m.lines m.asked c.self.invariant.in_line refl c.in_default.ensures.none
     (sym (ap (λ (n : Core). is_open n.numbers.tasks) c.core.ensures.parts) ∙ sym c.has_room.ensures ∙ c.if-not-has_room.true))
+
+pub returns-then-not-has_room-clause-order : goal.returns-then-not-has_room-clause-order
+returns-then-not-has_room-clause-order g c =
+    let core = c.core.ensures in
+    rw (← c.self.view_is) (record { orderly = core.orderly; places = core.places; rows = core.rows; outside = core.outside })

@@ -60,3 +60,28 @@ returns-clause-found g c =
     let at = at_place x core.places pick due c.core-core.result.now core.parts v c.index-vertex.ensures in
     let parts = ap length (c.parts.ensures ∙ ap (λ (n : Core). parts_at n.numbers.local v.0) core.parts) in
     rw (← c.self.view_is) (found_due x core.orderly core.places c.if-self.false pick due v at c.if-pick.false (sym parts ∙ c.if-parts-ne1.false) c.self.invariant.free)
+
+pub returns-then-self-clause-order : goal.returns-then-self-clause-order
+returns-then-self-clause-order g c =
+    let core = c.core-core.ensures in
+    rw (← c.self.view_is) (record { orderly = core.orderly; places = core.places; rows = core.rows; outside = core.outside })
+
+pub returns-in_err-pick-clause-order : goal.returns-in_err-pick-clause-order
+returns-in_err-pick-clause-order g c =
+    let core = c.core-core.ensures in
+    rw (← c.self.view_is) (record { orderly = core.orderly; places = core.places; rows = core.rows; outside = core.outside })
+
+pub returns-then-pick-clause-order : goal.returns-then-pick-clause-order
+returns-then-pick-clause-order g c =
+    let core = c.core-core.ensures in
+    rw (← c.self.view_is) (record { orderly = core.orderly; places = core.places; rows = core.rows; outside = core.outside })
+
+pub returns-then-parts-ne1-clause-order : goal.returns-then-parts-ne1-clause-order
+returns-then-parts-ne1-clause-order g c =
+    let core = c.core-core.ensures in
+    rw (← c.self.view_is) (record { orderly = core.orderly; places = core.places; rows = core.rows; outside = core.outside })
+
+pub returns-clause-order : goal.returns-clause-order
+returns-clause-order g c =
+    let core = c.core-core.ensures in
+    rw (← c.self.view_is) (record { orderly = core.orderly; places = core.places; rows = core.rows; outside = core.outside })

@@ -18,7 +18,7 @@ pub learn-requires : goal.learn-requires
 learn-requires g c =
     let m = c.self.inside in
     let rest = subst (λ (x : ColorSnapView g.row.P.Denot). HasOtherPending c.args.self.now.core x.core) (sym c.self.view_is) c.begin.ensures.rest in
-    can_learn c.args.self.now.core m.machine.core c.args.done rest c.requires c.core-begun.ensures.orderly c.self.invariant.free
+    λ orderly. can_learn c.args.self.now.core m.machine.core c.args.done rest c.requires orderly c.self.invariant.free
 
 pub invariant_of-self : goal.invariant_of-self
 invariant_of-self g c =
@@ -26,13 +26,12 @@ invariant_of-self g c =
     let is = c.self.invariant in
     let e = c.learn.ensures in
     let before = c.core-begun.ensures in
-    let after = c.core-learned.ensures in
     let x = seen_in_steps m.machine m.lines.colours m.colour m.closed in
     let rest = subst (λ (y : ColorSnapView g.row.P.Denot). HasOtherPending c.args.self.now.core y.core) (sym c.self.view_is) c.begin.ensures.rest in
     let step = subst (λ (y : ColorSnapView g.row.P.Denot). IsInSameStep c.args.self.now y) (sym c.self.view_is) c.begin.ensures.step in
     let has = subst (λ (y : ColorSnapView g.row.P.Denot). HasBegunInStep c.args.self.now y c.args.done.number) (sym c.self.view_is) c.begin.ensures.begun in
     let begun = begun_part c.args.self.now x c.args.done step has rest is.st is.setting.part in
-    let many = sym after.places.vertices.many ∙ ap (λ vs. length vs.items) e.places ∙ before.places.vertices.many in
+    let many = e.many in
     let woken = subst (λ (ws : List Vertex). HasEnlisted All c.core-begun.result.now.numbers m.lines c.enlist_all.new.lines ws (length ws)) c.deref.ensures.value c.enlist_all.ensures.enlisted in
     let pended = subst (λ (ws : List Vertex). HasEnlisted All c.core-begun.result.now.numbers m.asked c.enlist_all-2.new.lines ws (length ws)) c.deref-2.ensures.value c.enlist_all-2.ensures.enlisted in
     let woken_here = subst (λ (n : Core). HasEnlisted All n.numbers m.lines c.enlist_all.new.lines c.args.done.wakes.items (length c.args.done.wakes.items)) before.parts woken in

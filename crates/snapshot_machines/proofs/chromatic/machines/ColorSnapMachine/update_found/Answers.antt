@@ -41,7 +41,7 @@ invariant_of-self g c =
     let m = c.self.inside in
     let is = c.self.invariant in
     let e = c.in-Ok.ensures in
-    let before = c.core-before.ensures in
+    let before = c.update_found.ensures.order in
     let after = c.core-after.ensures in
     let x = seen_in_steps m.machine m.lines.colours m.colour m.closed in
     let f = c.args.found in
@@ -113,3 +113,9 @@ returns-in-Err-clause-tasks g c = rw (← c.self.view_is) c.in-Err.ensures.tasks
 
 pub returns-in-Err-clause-local : goal.returns-in-Err-clause-local
 returns-in-Err-clause-local g c = rw (← c.self.view_is) c.in-Err.ensures.local
+
+pub returns-in-Ok-clause-order : goal.returns-in-Ok-clause-order
+returns-in-Ok-clause-order g c = rw (← c.self.view_is) c.update_found.ensures.order
+
+pub returns-in-Err-clause-order : goal.returns-in-Err-clause-order
+returns-in-Err-clause-order g c = rw (← c.self.view_is) c.update_found.ensures.order

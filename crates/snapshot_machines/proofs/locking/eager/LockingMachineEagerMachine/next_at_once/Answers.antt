@@ -11,10 +11,10 @@ returns-in-Some-clause-found g c = rw (← c.self.view_is) (c.in-Some.found, ref
 pub returns-in-Some-clause-can : goal.returns-in-Some-clause-can
 returns-in-Some-clause-can g c =
     let x : LockingMachineView g.row.P.Denot = record { machine = c.self.inside.machine; counts = c.self.inside.counts; window = c.self.inside.window; reports = c.self.inside.reports } in
-    rw (← c.self.view_is) (found_begins g.P.Program.meaning x c.core-core.ensures.orderly c.core-core.ensures.outside c.in-Some.found c.in-Some.ensures.found)
+    rw (← c.self.view_is) (found_begins g.P.Program.meaning x c.find_at_once.ensures.order.orderly c.find_at_once.ensures.order.outside c.in-Some.found c.in-Some.ensures.found)
 
 pub returns-in-None-clause-none : goal.returns-in-None-clause-none
 returns-in-None-clause-none g c =
     let x : LockingMachineView g.row.P.Denot = record { machine = c.self.inside.machine; counts = c.self.inside.counts; window = c.self.inside.window; reports = c.self.inside.reports } in
-    let core = c.core-core.ensures in
+    let core = c.find_at_once.ensures.order in
     rw (← c.self.view_is) (can_not_at_once g.P.Program.meaning x core.orderly core.places core.outside c.in-None.ensures.none)

@@ -32,7 +32,7 @@ returns-in_err-update_found-clause-unchanged g c =
 pub returns-clause-updated : goal.returns-clause-updated
 returns-clause-updated g c =
     let x : LockingMachineView g.row.P.Denot = record { machine = c.self.inside.machine; counts = c.self.inside.counts; window = c.self.inside.window; reports = c.self.inside.reports } in
-    let core = c.core-core.ensures in
+    let core = c.update_found.ensures.order in
     let finds = subst (λ (y : LockingMachineView g.row.P.Denot). FindsPick y c.args.v) (sym c.self.view_is) c.requires in
     let e = c.update_found.ensures in
     let ok = c.in_ok-update_found.ensures in

@@ -1,5 +1,5 @@
 use Rattle.std.proofs.Common.{ap, ◌∙◌}
-use Rattle.snapshot_machines.proofs.saving.StayLemmas.{stays}
+use Rattle.snapshot_machines.proofs.saving.StayLemmas.{in_order, stays}
 use Rattle.snapshot_machines.proofs.saving.machines.SnapMachine.admit.Goals as goal
 
 pub invariant_of-self : goal.invariant_of-self
@@ -40,3 +40,8 @@ returns-clause-terms g c = c.admit.ensures.terms ∙ ap (λ m. m.core.terms) c.s
 
 pub returns-clause-settings : goal.returns-clause-settings
 returns-clause-settings g c = rw (← c.self.view_is) c.admit.ensures.settings
+
+pub returns-clause-order : goal.returns-clause-order
+returns-clause-order g c =
+    let m = c.self.inside in
+    rw (← c.self.view_is) (in_order m.core m.snaps m.seen c.self.invariant)

@@ -1,6 +1,6 @@
 use Rattle.std.proofs.Common.{ap, ◌∙◌}
 use Rattle.machine_core.specs.declared.machine_parts.cores.Core.{Core}
-use Rattle.snapshot_machines.proofs.saving.StayLemmas.{stays_marked}
+use Rattle.snapshot_machines.proofs.saving.StayLemmas.{in_order, stays_marked}
 use Rattle.snapshot_machines.proofs.saving.machines.SnapMachine.mark.Goals as goal
 
 pub invariant_of-self : goal.invariant_of-self
@@ -50,3 +50,8 @@ returns-clause-terms g c = ap (λ (x : Core). x.terms) c.mark.ensures.rest ∙ a
 
 pub returns-clause-program : goal.returns-clause-program
 returns-clause-program g c = ap (λ m. m.program) c.self.view_is
+
+pub returns-clause-order : goal.returns-clause-order
+returns-clause-order g c =
+    let m = c.self.inside in
+    rw (← c.self.view_is) (in_order m.core m.snaps m.seen c.self.invariant)

@@ -1,6 +1,8 @@
-use Rattle.std.proofs.Common.{ap, ◌∙◌}
+use Rattle.std.proofs.Common.{ap, ◌∙◌, sym, subst}
 use Rattle.machine_core.specs.declared.machine_parts.cores.Core.{Core}
 use Rattle.snapshot_machines.proofs.saving.StayLemmas.{places_same, stays}
+use Rattle.machine_core.specs.machine_scopes.Asking.{AreMachinesFor, IsNewAt}
+use Rattle.snapshot_machines.specs.saving.Machines.{IsOrderly, SnapMachineView}
 use Rattle.snapshot_machines.proofs.saving.machines.SnapMachine.receive_ask.Goals as goal
 
 pub invariant_of-self : goal.invariant_of-self
@@ -34,3 +36,9 @@ returns-clause-kept g c = ap (λ m. m.kept) c.self.view_is
 
 pub returns-clause-program : goal.returns-clause-program
 returns-clause-program g c = ap (λ m. m.program) c.self.view_is
+
+pub receive_ask-requires-clause-is_new : goal.receive_ask-requires-clause-is_new
+receive_ask-requires-clause-is_new g c = subst (λ (x : SnapMachineView g.row.P.Denot). IsOrderly x.core → IsNewAt x.core c.args.scope c.args.centre) (sym c.self.view_is) c.requires.is_new c.self.invariant.orderly
+
+pub receive_ask-requires-clause-machines : goal.receive_ask-requires-clause-machines
+receive_ask-requires-clause-machines g c = subst (λ (x : SnapMachineView g.row.P.Denot). IsOrderly x.core → AreMachinesFor x.core c.args.scope c.args.rest.items) (sym c.self.view_is) c.requires.machines c.self.invariant.orderly

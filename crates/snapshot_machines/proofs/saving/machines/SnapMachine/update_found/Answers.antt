@@ -2,7 +2,7 @@
 use Rattle.std.proofs.Common.{ℕ, ◌+◌, ap, ◌∙◌, sym}
 use Rattle.partition.specs.machine_numbers.Views.{TasksView}
 use Rattle.machine_core.specs.declared.machine_parts.cores.Core.{Core}
-use Rattle.snapshot_machines.proofs.saving.StayLemmas.{logged_stays, stays_updated}
+use Rattle.snapshot_machines.proofs.saving.StayLemmas.{in_order, logged_stays, stays_updated}
 use Rattle.snapshot_machines.proofs.saving.machines.SnapMachine.update_found.Goals as goal
 
 pub invariant_of-self-in-Ok : goal.invariant_of-self-in-Ok
@@ -76,3 +76,18 @@ returns-in-Err-clause-terms g c = ap (λ (m : Core). m.terms) c.make_found.ensur
 
 pub returns-in-Err-clause-settings : goal.returns-in-Err-clause-settings
 returns-in-Err-clause-settings g c = rw (← c.self.view_is) c.make_found.ensures.settings
+
+pub returns-then-is_err-clause-order : goal.returns-then-is_err-clause-order
+returns-then-is_err-clause-order g c =
+    let m = c.self.inside in
+    rw (← c.self.view_is) (in_order m.core m.snaps m.seen c.self.invariant)
+
+pub returns-in-Ok-clause-order : goal.returns-in-Ok-clause-order
+returns-in-Ok-clause-order g c =
+    let m = c.self.inside in
+    rw (← c.self.view_is) (in_order m.core m.snaps m.seen c.self.invariant)
+
+pub returns-in-Err-clause-order : goal.returns-in-Err-clause-order
+returns-in-Err-clause-order g c =
+    let m = c.self.inside in
+    rw (← c.self.view_is) (in_order m.core m.snaps m.seen c.self.invariant)
