@@ -37,28 +37,36 @@ fn new_locking<P: Program>(
     new_member(alloc, machine, places)
 }
 
+/// What the machines of an attempt go by: the base from which it begins, where the graph is, and
+/// the terms of a new machine but for its serial.
+#[derive(Clone, Copy)]
+pub struct MemberTerms<'a> {
+    pub base: &'a Base,
+    pub places: &'a Places,
+    pub terms: NewTerms,
+}
+
 /// A new machine for each part, in turn, each with its serial.
 pub fn new_members<P: Program>(
     alloc: Global,
     parts: Vec<LocalGraph>,
     program: P,
-    base: &Base,
-    places: &Places,
-    terms: NewTerms,
+    by: &MemberTerms<'_>,
     serials: &[u64],
 ) -> Result<Vec<AnyMachine<P>>, NoMemory>
-    requires can { CanAllSave parts.items (P.meaning program) base.now terms places.now }
+    requires can { CanAllSave parts.items (P.meaning program)
+        by.now.base.now by.now.terms by.now.places.now }
     requires serials { length serials.now ≡ length parts.items }
     ensures stand { (st : Setting) (before : Cluster) →
-        SavesBy st (P.meaning program) base.now terms places.now →
+        SavesBy st (P.meaning program) by.now.base.now by.now.terms by.now.places.now →
         AreUnsetParts (with_locking st) parts.items → HaveAdmitted st serials.now before →
         IfOk result (λ placed. StandFirst P.meaning st before placed.items) }
     ensures many { IfOk result (λ placed. length placed.items ≡ length parts.items) }
 {
     let mut placed = Vec::with_capacity(alloc, parts.len())?;
     for local in parts {
-        let own = with_serial(terms, serials[placed.len()]);
-        placed.push(new_locking(alloc, local, program, base, places, own)?)?;
+        let own = with_serial(by.terms, serials[placed.len()]);
+        placed.push(new_locking(alloc, local, program, by.base, by.places, own)?)?;
     }
     Ok(placed)
 }

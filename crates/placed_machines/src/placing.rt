@@ -5,7 +5,7 @@ ghost use Rattle.placed_machines.specs.Beginning.{ArePlacesOf, AreAnyMachinesOf,
 ghost use Rattle.placed_machines.specs.Inner.Making.{AreUnsetParts, GoesBy, IsRunFrom, Update, takes_locks, with_locking};
 
 use crate::any_machine::AnyMachine;
-use crate::machines::new_members;
+use crate::machines::{MemberTerms, new_members};
 use coordinator::coord_core::Engine;
 use gl_base::{AtomNo, Base, MachineNo, NoMemory, Vertex};
 use graph_core::Graph;
@@ -60,7 +60,12 @@ pub fn machines_of_attempt<P: Program>(
 {
     let terms = terms_of(graph, base, places.run);
     let parts = parts_of(alloc, graph, places)?;
-    new_members(alloc, parts, program, base, places, terms, serials)
+    let by = MemberTerms {
+        base,
+        places,
+        terms,
+    };
+    new_members(alloc, parts, program, &by, serials)
 }
 
 /// The part of each machine, of a graph that is placed so.

@@ -24,7 +24,6 @@ impl<P: Program> ChromaticMachine<P> {
             (StandsStill (IsChromaticMachineOf P.meaning) self.old self.new) }
     {
         let prepared = self.prepare(2);
-        let _core = self.machine.core();
         if prepared.is_err() {
             return Err(self.machine.refusal_at_once());
         }

@@ -10,13 +10,11 @@ impl<P: Program> EagerMachine for ChromaticMachine<P> {
     ghost finds = { FindsByColour };
 
     fn next_at_once(&self) -> Option<Vertex> {
-        let _core = self.machine.core();
         self.machine.next_at_once()
     }
 
     fn update_now(&mut self, v: Vertex, ticket: u64) -> Result<(), NoMemory> {
         self.prepare(2)?;
-        let _core = self.machine.core();
         self.machine.update_now(v, ticket)?;
         self.ask();
         self.prompt();

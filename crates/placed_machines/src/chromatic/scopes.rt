@@ -20,7 +20,6 @@ impl<P: Program> ChromaticMachine<P> {
         ensures unchanged { OnErr result
             (StandsStill (IsChromaticMachineOf P.meaning) self.old self.new) }
     {
-        let _core = self.machine.core();
         let _plans = self.machine.core().numbers.tasks.plans();
         if let Err(refused) = self.machine.admit() {
             return Err(refused);

@@ -23,7 +23,6 @@ impl<P: Program> ChromaticMachine<P> {
         ensures unchanged { OnErr result
             (StandsStill (IsChromaticMachineOf P.meaning) self.old self.new) }
     {
-        let _core = self.machine.core();
         if !self.machine.can_update(scope) {
             return Err(Refused::NotNow);
         }

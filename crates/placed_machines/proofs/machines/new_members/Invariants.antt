@@ -6,5 +6,5 @@ abbrev pub invariant-loop-local : goal.invariant-loop-local
 invariant-loop-local g l =
     record {
       count : length l.placed.items ≡ length l.yielded;
-      stand : StandSoFar g.P.Program.meaning l.program l.fn.parts.items l.base l.terms l.places l.serials l.placed.items;
+      stand : StandSoFar g.P.Program.meaning l.program l.fn.parts.items l.by.base.now l.by.terms l.by.places.now l.serials l.placed.items;
     }

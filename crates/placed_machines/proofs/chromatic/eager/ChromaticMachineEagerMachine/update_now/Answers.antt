@@ -31,7 +31,7 @@ pub returns-clause-updated : goal.returns-clause-updated
 returns-clause-updated g c =
     let m = c.self.inside in
     let x : ChromaticMachineView g.row.P.Denot = record { machine = m.machine; counts = m.counts; window = m.window; reports = m.reports } in
-    let core = c.core-core.ensures in
+    let core = c.update_now.ensures.order in
     let is = c.self.view_is ∙ c.prepare.ensures.rest in
     let ok = c.in_ok-update_now.ensures in
     updated_from (IsChromaticMachineOf g.P.Program.meaning) c.args.self.now x c.prompt.new.self (prepared_stands g.P.Program.meaning c.args.self.now x c.prepare.new.self.reports is c.prepare.ensures.same) c.args.v.0 c.args.ticket
