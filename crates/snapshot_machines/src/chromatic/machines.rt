@@ -50,7 +50,6 @@ impl<P: Program> ColorSnapMachine<P> {
             IsColorSnapOf P.meaning st (in_no_step machine colours.now) }
         ensures { IfOk result (λ m. m ≡ in_no_step machine colours.now) }
     {
-        let _count = machine.core().numbers.tasks.count();
         let lines = ColorLines::full(alloc, colours)?;
         let asked = ColorLines::new(alloc, colours)?;
         Ok(ColorSnapMachine {

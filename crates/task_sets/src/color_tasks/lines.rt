@@ -41,12 +41,15 @@ impl Model for ColorLines {
 
 impl ColorLines {
     /// Lines for vertices of these colours, in which nobody stands. It takes memory for each colour
-    /// up to the greatest.
+    /// up to the greatest; there is none for 2^32 vertices.
     pub fn new(alloc: Global, colours: &[u32]) -> Result<ColorLines, NoMemory>
-        requires few { length colours.now < 4294967296 }
+        ensures few { OnOk result (length colours.now < 4294967296) }
         ensures colours { IfOk result (λ l. l.colours ≡ colours.now) }
         ensures none { IfOk result (λ l. (u : ℕ) → is_in_line l u ≡ false) }
     {
+        if colours.len() > u32::MAX as usize {
+            return Err(NoMemory);
+        }
         let mut rows = empty_rows(alloc, greatest(colours) as usize + 1)?;
         let mut seats = Vec::with_capacity(alloc, colours.len())?;
         for place in 0..colours.len() {
@@ -63,7 +66,6 @@ impl ColorLines {
 
     /// The same lines, in which each vertex stands.
     pub fn full(alloc: Global, colours: &[u32]) -> Result<ColorLines, NoMemory>
-        requires few { length colours.now < 4294967296 }
         ensures colours { IfOk result (λ l. l.colours ≡ colours.now) }
         ensures all { IfOk result (λ l. (u : ℕ) → is_in_line l u ≡ nat_lt u (length colours.now)) }
     {
