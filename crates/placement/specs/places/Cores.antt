@@ -2,7 +2,7 @@
 pub use Rattle.cluster_laws.specs.cluster_core.Settings.{IsSetting, Setting}
 pub use Rattle.machine_core.specs.machine_parts.Parts.{part_of}
 pub use Rattle.machine_core.specs.machine_parts.Settings.{IsPartOf}
-use Rattle.std.specs.Prelude.{◌≡◌, ◌==◌, ℕ, [], Option, length}
+use Rattle.std.specs.Prelude.{◌≡◌, ◌<◌, ◌==◌, ℕ, [], Option, length}
 use Rattle.std.specs.List.{list_any}
 use Rattle.cluster_laws.specs.cluster_core.Settings.{Locking}
 use Rattle.gl_base.specs.declared.scopes.Peer.{Peer}
@@ -40,4 +40,5 @@ pub record IsMadeWith (terms : NewTerms) (n : Numbers) (m : Core) : Type 0 where
   pub owned : (x : ℕ) → is_owned m.locks x ≡ list_any (λ v. v.0 == x) n.local.owned
   pub unclaimed : IsUnclaimed m.locks
   pub machines : length m.out.machines ≡ terms.machines
+  pub few : terms.machines < 65536
   pub none : (to : Peer) → waiting_for m.out to ≡ []

@@ -1,4 +1,4 @@
-use Rattle.std.proofs.Common.{Some, arith}
+use Rattle.std.proofs.Common.{Some}
 use Rattle.std.proofs.lemmas.Result.{IfOk-weaker}
 use Rattle.placement.proofs.places.NewLemmas.{few_here, low_here}
 use Rattle.placement.proofs.places.PlaceLemmas.{first_places}
@@ -56,5 +56,5 @@ returns g c = λ st m saves unset serial.
     (c.in_ok-numbers.ensures.numbers (with_locking st) unset (begins_locked st c.args.base.now saves.begins)) (c.in_ok-numbers.ensures.part (with_locking st) unset) c.in_ok-numbers.ensures.tasks c.in_ok-core.ensures
     g.P.Program.meaning c.args.program saves.program_is c.in_ok-machine.machine
     (record { core_is = c.in_ok-machine.ensures.core; kept_is = c.in_ok-machine.ensures.kept; program_is = c.in_ok-machine.ensures.program })
-    m serial saves.window_is (omega arith) places.run.engine places.colours.items saves.engine x new)
+    m serial saves.window_is c.in_ok-core.ensures.few places.run.engine places.colours.items saves.engine x new)
     c.new_member.ensures

@@ -1,5 +1,5 @@
 -- What a new machine has beside its numbers.
-use Rattle.std.specs.Prelude.{◌≡◌, ◌==◌, ℕ, [], length}
+use Rattle.std.specs.Prelude.{◌≡◌, ◌<◌, ◌==◌, ℕ, [], length}
 use Rattle.std.specs.List.{list_any}
 use Rattle.gl_base.specs.declared.scopes.Peer.{Peer}
 use Rattle.gl_base.specs.declared.numbers.MachineNo.{MachineNo}
@@ -24,4 +24,5 @@ pub record AreEmptyWays (me : MachineNo) (terms : NewTerms) (ways : Ways) : Type
   pub serial : ways.pipe.serial ≡ terms.serial
   pub empty : IsEmpty ways.pipe
   pub machines : length ways.out.machines ≡ terms.machines
+  pub few : terms.machines < 65536
   pub none : (to : Peer) → waiting_for ways.out to ≡ []
