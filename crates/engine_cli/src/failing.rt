@@ -11,7 +11,7 @@ ghost use Rattle.engine_cli.specs.Inner.Prepares.{IsPrintable};
 ghost use Rattle.engine_cli.specs.Plays.{RunsByScopes};
 
 use crate::playing::{plan_of, program_of};
-use engine_runs::answers::StoredRun;
+use engine_runs::answers::{StoredRun, UnstoredInput};
 use engine_runs::run_unstored;
 use gl_base::{Job, NoMemory};
 use graph_atoms::atom_gather::Cut;
@@ -43,14 +43,12 @@ pub fn run_without_store<R: Wait>(
 {
     let program = program_of(job);
     let plan = plan_of(job);
-    run_unstored(
-        rt,
-        alloc,
+    let input = UnstoredInput {
         graph,
-        program,
         cut,
+        failures: &job.failures,
         plan,
-        job.engine,
-        &job.failures,
-    )
+        engine: job.engine,
+    };
+    run_unstored(rt, alloc, &input, program)
 }

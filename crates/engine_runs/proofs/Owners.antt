@@ -49,12 +49,12 @@ with_owner g program cut plan places owner failures graph are same = record {
         owner = λ v low. subst (λ (k : ℕ). k < places.run.machines) (sym (same v low)) (owner_low g places.run.machines places.of.items places.owner.items are.are.each are.are.atoms are.are.owners v low);
       };
       coloured = coloured_by g places.run.engine places.colours.items (owned_setting g program places owner) refl are.are.colours;
-      stored = refl;
     };
     engine = runs_by places.run.engine places.colours.items (owned_setting g program places owner) refl;
     placed = record { graph = refl; machines = refl; owners = same };
     program_is = refl;
     pipeline = refl;
+    stored = refl;
     window = refl;
   };
   shared_is = refl;

@@ -46,10 +46,10 @@ module _ {D P : Type 0} (meaning : P → Update) (past : D → DiskPast) (call l
       (stored_size ∙ ap (λ (bs : List (List ℕ)). 65 + records_size bs) (at.stored well)) (subst (λ (n : ℕ). n ≤ 2 ^ 30) (sym size_is) bounds.bytes)
 
   pub never_back : (told : Type 0) (old new : Bool) (before now : ℕ) (why : JournalFault) (long : ℕ) (bad : StoreFault) → told →
-      GoBackErrorCause told (InEachTrace (IsAnyMachineOf meaning) later.trace (λ st o events c. 2 ^ 32 ≤ c.coordinator.store_end + 16 * failures_in st c)) old new before now why → end_without why long ≡ Err (fault.BadStore bad) → ⊥
+      GoBackErrorCause told (InEachTrace (IsAnyMachineOf meaning) later.trace (λ st o events c. st.stored ≡ true → 2 ^ 32 ≤ c.coordinator.store_end + 16 * failures_in st c)) old new before now why → end_without why long ≡ Err (fault.BadStore bad) → ⊥
   never_back told old new before now why long bad tells is same =
-      not_bad told (InEachTrace (IsAnyMachineOf meaning) later.trace (λ st o events c. 2 ^ 32 ≤ c.coordinator.store_end + 16 * failures_in st c)) old new before now why long bad tells
-      (λ over. far (over st o known.was.events known.was.cluster known.was.now)) is same
+      not_bad told (InEachTrace (IsAnyMachineOf meaning) later.trace (λ st o events c. st.stored ≡ true → 2 ^ 32 ≤ c.coordinator.store_end + 16 * failures_in st c)) old new before now why long bad tells
+      (λ over. far (over st o known.was.events known.was.cluster known.was.now known.fits.taken)) is same
 
 -- ---- where a snapshot is added
 

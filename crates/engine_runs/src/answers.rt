@@ -2,4 +2,4 @@
 
 mod runs;
 
-pub use runs::{RunInput, SnapLine, StoredEnd, StoredPlan, StoredRun};
+pub use runs::{RunInput, SnapLine, StoredEnd, StoredPlan, StoredRun, UnstoredInput};

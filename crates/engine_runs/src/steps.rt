@@ -108,8 +108,5 @@ fn go_on<R: Wait, P: Program>(rt: &R, call: &mut StoredCall<P>) -> Result<Pause,
     ensures attempt { IsSameCall call.old call.new }
 {
     call.trace.remember();
-    let pause = drive(rt, &mut call.trace, call.saves_end);
-    // The reader tells that no snapshot was acknowledged since, and that no attempt began.
-    let _machines = call.trace.machines();
-    pause
+    drive(rt, &mut call.trace, call.saves_end)
 }

@@ -1,5 +1,5 @@
 -- There is an attempt that begins as it is to.
-use Rattle.std.proofs.Common.{◌≡◌, ◌+◌, ◌*◌, ◌<◌, ℕ, true, List, refl, slice_index, arith}
+use Rattle.std.proofs.Common.{◌≡◌, ◌+◌, ◌*◌, ◌<◌, ℕ, List, refl, slice_index, arith}
 use Rattle.whole_laws.specs.cluster_ending.FourWaves.{fresh_cluster, fresh_machine, fresh_part}
 use Rattle.cluster_laws.specs.cluster_model.Leading.{first_coordinator}
 use Rattle.cluster_laws.specs.cluster_model.Totals.{total}
@@ -30,10 +30,10 @@ none_more n failed none = omega (arith, none)
 abbrev base_seen : Base → BaseView
 base_seen base = record { number = base.number; order = base.order.items; numbers = record { vertex = slice_index base.values.items; edge = slice_index base.edges.items } }
 
--- by colours of which neighbours have different ones the cluster takes snapshots as well
-snap_setting : (e : Engine) (colours : List ℕ) (st : Setting) → IsSetting st → st.stored ≡ true → AreColoursFor st.graph e colours → IsSnapSetting (record st { engine = engine_of e colours })
-snap_setting Locking colours st is stored are = record { is = record { graph = is.graph; owner = is.owner }; coloured = tt; stored = stored }
-snap_setting (Chromatic greatest) colours st is stored are = record { is = record { graph = is.graph; owner = is.owner }; coloured = are.1.apart; stored = stored }
+-- by colours of which neighbours have different ones the setting is one of a cluster as well
+snap_setting : (e : Engine) (colours : List ℕ) (st : Setting) → IsSetting st → AreColoursFor st.graph e colours → IsSnapSetting (record st { engine = engine_of e colours })
+snap_setting Locking colours st is are = record { is = record { graph = is.graph; owner = is.owner }; coloured = tt }
+snap_setting (Chromatic greatest) colours st is are = record { is = record { graph = is.graph; owner = is.owner }; coloured = are.1.apart }
 
 pub attempt_begins : (g : DataGraph) (program : Update) (owner : ℕ → ℕ) (colours : List ℕ) (run : SavingRun) (base : Base) (serials : List ℕ) (next left store_end : ℕ) →
     IsDataGraph g → ((v : ℕ) → v < size g → owner v < run.machines) → AreColoursFor g run.engine colours → IsBaseFor g base → IsAttemptFrom g program owner colours run base serials next left store_end
@@ -44,11 +44,12 @@ attempt_begins g program owner colours run base serials next left store_end grap
       view = base_seen base;
       before = cluster_behind st serials next left store_end;
       runs = record {
-        setting = snap_setting run.engine colours st (record { graph = graph; owner = low }) refl are;
+        setting = snap_setting run.engine colours st (record { graph = graph; owner = low }) are;
         engine = runs_by run.engine colours st refl;
         placed = record { graph = refl; machines = refl; owners = λ v inside. refl };
         program_is = refl;
         pipeline = refl;
+        stored = refl;
         window = refl;
       };
       of_base = record {

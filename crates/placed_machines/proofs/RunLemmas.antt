@@ -119,7 +119,7 @@ module _ (g : DataGraph) (program : Update) (owner : ℕ → ℕ) (colours : Lis
     placed = record { graph = runs.placed.graph; machines = runs.placed.machines; owners = runs.placed.owners };
     program_is = runs.program_is;
     pipeline = runs.pipeline;
-    stored = runs.setting.stored;
+    stored = runs.stored;
     window = runs.window;
     begins = record { vertices = of.vertices; edges = of.edges; number = of.number };
   }

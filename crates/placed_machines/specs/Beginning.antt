@@ -5,7 +5,7 @@ pub use Rattle.placement.specs.graphs.Placed.{IsOwnedBy, placed_owner}
 pub use Rattle.coordinator.specs.machine_api.Going.{IsSnapSetting}
 pub use Rattle.placed_machines.specs.any_machine.Machines.{IsAnyMachineOf, Setting}
 pub use Rattle.placed_machines.specs.declared.any_machine.machines.AnyMachine.{AnyMachine}
-use Rattle.std.specs.Prelude.{All, List, length, slice_index, slice_index_or, ⊤, ℕ, ◌<◌, ◌≡◌}
+use Rattle.std.specs.Prelude.{All, List, length, slice_index, slice_index_or, true, ⊤, ℕ, ◌<◌, ◌≡◌}
 use Rattle.cluster_laws.specs.cluster_core.Recovering.{going_on}
 use Rattle.cluster_laws.specs.cluster_core.Settings as law
 use Rattle.cluster_laws.specs.cluster_model.Events.{recovers}
@@ -41,6 +41,7 @@ pub record IsSavingRunOf (g : DataGraph) (program : Update) (owner : ℕ → ℕ
   pub placed : IsOwnedBy g run.machines owner st
   pub program_is : st.program ≡ program
   pub pipeline : st.pipeline ≡ run.pipeline
+  pub stored : st.stored ≡ true
   pub window : st.window ≡ run.window
 
 -- Each vertex of the graph is in an atom, each atom on a machine, and there are so many machines; and the colours are such that the graph may

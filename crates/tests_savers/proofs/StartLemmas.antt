@@ -1,5 +1,5 @@
 -- The machines of a graph begin an attempt of the law.
-use Rattle.std.proofs.Common.{◌≡◌, ℕ, List, length, sym, ap, ◌∙◌}
+use Rattle.std.proofs.Common.{◌≡◌, ℕ, Some, List, length, sym, ap, ◌∙◌}
 use Rattle.gl_base.specs.declared.snapshots.Base.{Base}
 use Rattle.graph_core.specs.DataGraph.{DataGraph, IsDataGraph, size}
 use Rattle.update_api.specs.Updates.{Update}
@@ -22,7 +22,7 @@ pub start_of : {P : Type 0} (meaning : P → Update) (g : DataGraph) (program : 
     → ArePlacesOf g places.run.machines places → IsBaseFor g base
     → ((st : Setting) (view : BaseView) (before : Cluster) → IsRunAt g program places st → IsBaseOf st base view → HaveAdmitted st serials before → AreAnyMachinesOf meaning st view before members)
     → store.vertices ≡ size g → store.edges ≡ length g.edges → store.newest ≡ base.number
-    → (st : Setting) × (view : BaseView) × (before : Cluster) × StartsSaving (IsAnyMachineOf meaning) members places.run.engine store next left st view before
+    → (st : Setting) × (view : BaseView) × (before : Cluster) × StartsSaving (IsAnyMachineOf meaning) members places.run.engine (Some store) next left st view before
 start_of meaning g program places base serials members store next left graph are for stand vertices edges newest =
     let of = places.of.items in
     let owner = places.owner.items in
@@ -36,10 +36,13 @@ start_of meaning g program places base serials members store next left graph are
         led = led_by places.run.engine places.colours.items at.st at.runs.engine;
         many = one.many;
         each = one.each;
-        vertices = ap size at.runs.placed.graph ∙ sym vertices;
-        edges = ap (λ (h : DataGraph). length h.edges) at.runs.placed.graph ∙ sym edges;
-        newest = at.of_base.number ∙ sym newest;
-        store_end = at.store_end_is;
+        begins = record {
+          stored = at.runs.stored;
+          vertices = ap size at.runs.placed.graph ∙ sym vertices;
+          edges = ap (λ (h : DataGraph). length h.edges) at.runs.placed.graph ∙ sym edges;
+          newest = at.of_base.number ∙ sym newest;
+          store_end = at.store_end_is;
+        };
         first = at.next_is;
         tickets = at.left_is;
       },

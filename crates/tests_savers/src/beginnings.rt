@@ -1,5 +1,5 @@
 //! Clusters that begin, or begin again.
-ghost use Rattle.std.specs.Prelude.{◌≡◌, ◌+◌, ◌^◌, ◌<◌, ℕ, All, IfOk, IsTrue, length};
+ghost use Rattle.std.specs.Prelude.{◌≡◌, ◌+◌, ◌^◌, ◌<◌, ℕ, All, IfOk, IsTrue, Some, length};
 ghost use Rattle.coordinator.specs.coord_core.Stores.{store_view};
 ghost use Rattle.graph_core.specs.DataGraph.{IsDataGraph, size};
 ghost use Rattle.placed_machines.specs.Beginning.{AreColoursFor, ArePlacesOf, BaseView, Cluster, IsBaseFor, IsAnyMachineOf, Setting};
@@ -225,7 +225,7 @@ fn start_from<P: Program>(
     ensures start { IfOk result (λ start. (next left : ℕ) → (st : Setting) × (view : BaseView) ×
         (before : Cluster) ×
         StartsSaving (IsAnyMachineOf P.meaning) start.machines.items start.engine
-        (store_view start.store) next left st view before) }
+        (Some (store_view start.store)) next left st view before) }
     ensures many { IfOk result (λ start. length start.machines.items < 65535) }
     ensures newest { IfOk result (λ start. start.store.newest + 1 < 2 ^ 32) }
     ensures length { IfOk result (λ start. start.store.length < 2 ^ 32) }
@@ -247,7 +247,7 @@ fn start_at<P: Program>(
     ensures start { IfOk result (λ start. (next left : ℕ) → (st : Setting) × (view : BaseView) ×
         (before : Cluster) ×
         StartsSaving (IsAnyMachineOf P.meaning) start.machines.items start.engine
-        (store_view start.store) next left st view before) }
+        (Some (store_view start.store)) next left st view before) }
     ensures many { IfOk result (λ start. length start.machines.items < 65535) }
     ensures newest { IfOk result (λ start. start.store.newest + 1 < 2 ^ 32) }
     ensures length { IfOk result (λ start. start.store.length < 2 ^ 32) }
@@ -279,7 +279,7 @@ pub fn begun<P: Program>(alloc: Global, beginning: &Beginning<'_, P>) -> Result<
         return Err(Trouble::Because("there are too many tickets"));
     }
     let start = first_start(alloc, beginning, &beginning.base)?;
-    Ok(SnapCluster::new(alloc, start.machines, start.engine, start.store, 0, tickets)?)
+    Ok(SnapCluster::new(alloc, start.machines, start.engine, Some(start.store), 0, tickets)?)
 }
 
 /// Returns the start from this base, of machines that have admitted nothing.
@@ -291,7 +291,7 @@ fn first_start<P: Program>(
     ensures start { IfOk result (λ start. (next left : ℕ) → (st : Setting) × (view : BaseView) ×
         (before : Cluster) ×
         StartsSaving (IsAnyMachineOf P.meaning) start.machines.items start.engine
-        (store_view start.store) next left st view before) }
+        (Some (store_view start.store)) next left st view before) }
     ensures many { IfOk result (λ start. length start.machines.items < 65535) }
     ensures newest { IfOk result (λ start. start.store.newest + 1 < 2 ^ 32) }
     ensures length { IfOk result (λ start. start.store.length < 2 ^ 32) }
@@ -313,7 +313,7 @@ pub fn begin_again<P: Program>(
         drop(start);
         return Err(Trouble::Because("there is another count of machines"));
     }
-    whole.recover(alloc, start.machines, start.engine, start.store)?;
+    whole.recover(alloc, start.machines, start.engine, Some(start.store))?;
     Ok(true)
 }
 
@@ -348,15 +348,15 @@ pub fn begin_call<P: Program>(
     }
     let failures = Vec::from_slice(alloc, failures)?;
     let start = first_start(alloc, beginning, base)?;
-    Ok(Trace::open(
+    let whole = SnapCluster::new(
         alloc,
         start.machines,
         start.engine,
-        start.store,
+        Some(start.store),
         0,
         tickets,
-        failures,
-    )?)
+    )?;
+    Ok(Trace::open(alloc, whole, failures)?)
 }
 
 /// Lets all machines of the call go back to this base.
@@ -372,5 +372,5 @@ pub fn call_again<P: Program>(
         drop(start);
         return Err(Trouble::Because("there is another count of machines"));
     }
-    Ok(trace.recover(alloc, start.machines, start.engine, start.store)?)
+    Ok(trace.recover(alloc, start.machines, start.engine, Some(start.store))?)
 }

@@ -28,13 +28,14 @@ use Rattle.whole_laws.specs.cluster_records.Recorded.{HaveSameNumbers, IsGoodSna
 use Rattle.cluster_step.specs.clusters.Links.{link_between}
 use Rattle.cluster_step.proofs.clusters.LinkLemmas.{nothing_told}
 use Rattle.whole_laws.specs.cluster_whole.Logged.{entries_to, is_up_to}
+use Rattle.coordinator.specs.coord_core.Coordinators.{CoordinatorView}
 use Rattle.coordinator.specs.coord_core.Calls.{IsDueOf, IsFirstWith, IsRecordDueOf, IsRecordFor, MayLeadRecord}
 use Rattle.coordinator.specs.declared.coord_core.leading.Due.{Due}
 use Rattle.coordinator.specs.declared.coord_core.leading.Due.TheVariants as due
 use Rattle.seq_run.specs.Orders.{IsValidOrder, all_tasks, replay, replay_from, tasks_after}
 use Rattle.seq_run.specs.States.{GraphState, start_state}
 use Rattle.coordinator.specs.snap_update.Holding.{last_of_edge}
-use Rattle.cluster_step.specs.clusters.Clusters.{AreCalls, AreReports, BaseView, Cluster, Engine, HaveLinks, InEachCluster, IsSavingClusterOf, IsCoordinatorOf, IsSnapSetting, Machine, Parts, Setting, StandsForSaving, StartsSaving, StoreView, messages_on}
+use Rattle.cluster_step.specs.clusters.Clusters.{AreCalls, AreReports, BaseView, BeginsWith, Cluster, Engine, HaveLinks, InEachCluster, IsSavingClusterOf, IsCoordinatorOf, IsEngineOf, IsSnapSetting, Machine, Parts, Setting, StandsForSaving, StartsSaving, StoreView, messages_on}
 use Rattle.cluster_step.specs.clusters.Events.{AnswersEvent}
 use Rattle.cluster_step.specs.declared.clusters.events.Event.{Event}
 use Rattle.cluster_step.specs.clusters.Cuts.{HasGoodBase, IsCutWith, IsSnapshotCut, RecordsCut, numbers_in, part_in, saver_of, snapshot_due}
@@ -206,7 +207,7 @@ pub so_many : (failed : Vec Bool Global) (n : ℕ) → failed.items ≡ replicat
 so_many failed n is = ap length is ∙ length-replicate n false
 
 pub began_setting : (st : Setting) → IsSnapSetting st → (base : BaseView) → IsSnapSetting (going_on st base.numbers base.number)
-began_setting st setting base = record { is = record { graph = setting.is.graph; owner = setting.is.owner }; coloured = setting.coloured; stored = setting.stored }
+began_setting st setting base = record { is = record { graph = setting.is.graph; owner = setting.is.owner }; coloured = setting.coloured }
 
 none_calls : (messages : List MessageView) → messages ≡ [] → AreCalls messages []
 none_calls messages none = subst (λ (ms : List MessageView). AreCalls ms []) (sym none) tt
@@ -214,16 +215,21 @@ none_calls messages none = subst (λ (ms : List MessageView). AreCalls ms []) (s
 none_reports : (messages : List MessageView) → messages ≡ [] → AreReports messages []
 none_reports messages none = subst (λ (ms : List MessageView). AreReports ms []) (sym none) tt
 
-module _ {M : Type 0} (represents : Setting → ℕ → Machine → M → Type 0) (p : Parts M) (engine : Engine) (store : StoreView) (next left : ℕ)
+-- the coordinator that an attempt of this setting begins with
+first_led : (st : Setting) (base : BaseView) (before : Cluster) (machines : ℕ) (engine : Engine) (view : CoordinatorView) (store : Option StoreView) → IsFirstWith machines engine store view → st.machines ≡ machines → IsEngineOf engine st.engine →
+    BeginsWith store st base before → IsCoordinatorOf (going_on st base.numbers base.number) view (first_coordinator (going_on st base.numbers base.number) base.number (recovers st base before).coordinator.store_end)
+first_led st base before machines engine view None leads many led plain = leads (going_on st base.numbers base.number) base.number (recovers st base before).coordinator.store_end many led plain
+first_led st base before machines engine view (Some store) leads many led is =
+    let now : Setting = going_on st base.numbers base.number in
+    subst (λ (k : ℕ). IsCoordinatorOf now view (first_coordinator now k (recovers st base before).coordinator.store_end)) (sym is.newest)
+    (subst (λ (n : ℕ). IsCoordinatorOf now view (first_coordinator now store.newest n)) (sym is.store_end) (leads now many led is.stored is.vertices is.edges))
+
+module _ {M : Type 0} (represents : Setting → ℕ → Machine → M → Type 0) (p : Parts M) (engine : Engine) (store : Option StoreView) (next left : ℕ)
     (have : HaveLinks p.links (suc (length p.machines.items))) (none : (a b : ℕ) → (link_between p.links a b).messages ≡ []) (few : next + left < 2 ^ 64) (small : length p.machines.items < 65535)
-    (leads : IsFirstWith (length p.machines.items) engine (Some store) p.coordinator) (awake : (a : ℕ) → slice_index_or p.failed.items a false ≡ false) (flags : length p.failed.items ≡ length p.machines.items) (next_is : p.next ≡ next) (left_is : p.left ≡ left) where
+    (leads : IsFirstWith (length p.machines.items) engine store p.coordinator) (awake : (a : ℕ) → slice_index_or p.failed.items a false ≡ false) (flags : length p.failed.items ≡ length p.machines.items) (next_is : p.next ≡ next) (left_is : p.left ≡ left) where
   pub begun_first : (runs : p.stopped ≡ false) (st : Setting) (base : BaseView) (before : Cluster) → StartsSaving represents p.machines.items engine store next left st base before →
       IsSavingClusterOf represents (going_on st base.numbers base.number) p (recovers st base before)
   begun_first runs st base before start =
-      let now : Setting = going_on st base.numbers base.number in
-      let first : IsCoordinatorOf now p.coordinator (first_coordinator now store.newest store.store_end) =
-      leads now (sym start.many) start.led start.setting.stored start.vertices start.edges
-      in
       record {
         many = start.many;
         small = subst (λ (n : ℕ). n < 65535) start.many small;
@@ -234,8 +240,7 @@ module _ {M : Type 0} (represents : Setting → ℕ → Machine → M → Type 0
         told = λ a b low_a low_b. sym (nothing_told p.links none a b);
         calls = λ a low. none_calls (messages_on p.links st.machines a) (none st.machines a);
         reports = λ a low. none_reports (messages_on p.links a st.machines) (none a st.machines);
-        coordinator = subst (λ (k : ℕ). IsCoordinatorOf now p.coordinator (first_coordinator now k (recovers st base before).coordinator.store_end)) (sym start.newest)
-            (subst (λ (n : ℕ). IsCoordinatorOf now p.coordinator (first_coordinator now store.newest n)) (sym start.store_end) first);
+        coordinator = first_led st base before (length p.machines.items) engine p.coordinator store leads (sym start.many) start.led start.begins;
         next = start.first ∙ sym next_is;
         left = start.tickets ∙ sym left_is;
         few = subst (λ (n : ℕ). n + p.left < 2 ^ 64) (sym next_is) (subst (λ (n : ℕ). next + n < 2 ^ 64) (sym left_is) few);

@@ -37,7 +37,7 @@ module _ {M : Type 0} (represents : Setting → ℕ → Machine → M → Type 0
   pub makes_call : (call : EngineCall) × MakesCall st v.failures o events c call
   makes_call =
       let all = the_call st v.failures o.kept o.resumed o.base o.first events c is.trace in
-      (all.0, record { is = all.1; windows = all.2 is.setting.stored; snapshots = all.3; few = all.4; tells = all.5; lost = all.6; orders = all.7; owners = all.8 })
+      (all.0, record { is = all.1; windows = all.2; snapshots = all.3; few = all.4; tells = all.5; lost = all.6; orders = all.7; owners = all.8 })
 
   abbrev last : Setting
   last = newest_setting st o events
@@ -131,7 +131,7 @@ module _ {M : Type 0} (represents : Setting → ℕ → Machine → M → Type 0
     has_ended ended =
         let seen = (due.ended last c.coordinator is.code.coordinator).0 ended in
         let saved : HasSavedTheEnd st c.coordinator = saved_first (record { end = seen.2; none = seen.1; all = seen.0 }) in
-        record { tasks = makes.tells.tasks saved.end; unharmed = makes.tells.unharmed saved.end; some = makes.tells.some is.setting.stored saved; saved = makes.tells.saved is.setting.stored saved }
+        record { tasks = makes.tells.tasks saved.end; unharmed = makes.tells.unharmed saved.end; some = λ stored. makes.tells.some stored saved; saved = λ stored. makes.tells.saved stored saved }
 
     pub may_follow : (k : ℕ) → answer ≡ what.Record k → MayFollow st c.coordinator call
     may_follow k is_record = makes.tells.pending (due_first ((due.saved last c.coordinator k is.code.coordinator).0 is_record).0)

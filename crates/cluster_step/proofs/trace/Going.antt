@@ -1,7 +1,7 @@
 -- The course of a call goes on, event by event.
 use Rattle.std.proofs.Common.{◌≡◌, ◌≢◌, ℕ, zero, suc, ◌<◌, ◌++◌, Bool, true, false, List, [], ◌∷◌, length, refl, sym, ap, append_assoc, subst, ◌∙◌}
 use Rattle.std.proofs.lemmas.List.{append-nil}
-use Rattle.std.specs.Prelude.{Err, None, Ok, OnErr, OnOk, Result, Some, replicate, slice_index_or}
+use Rattle.std.specs.Prelude.{Err, None, Ok, OnErr, OnOk, Option, Result, Some, replicate, slice_index_or}
 use Rattle.gl_base.specs.declared.jobs.FailureAt.{FailureAt}
 use Rattle.gl_base.specs.declared.numbers.MachineNo.{MachineNo}
 use Rattle.gl_base.specs.declared.refusals.Refused.{Refused}
@@ -40,7 +40,11 @@ pub setting_now : (st : Setting) (o : CallOpening) (events : List law.Event) →
 setting_now st o events setting =
     let last : Setting = newest_setting st o events in
     subst IsSnapSetting (sym (behind_since events (first_setting st o)))
-    (record { is = record { graph = setting.is.graph; owner = setting.is.owner }; coloured = setting.coloured; stored = setting.stored })
+    (record { is = record { graph = setting.is.graph; owner = setting.is.owner }; coloured = setting.coloured })
+
+-- and snapshots are taken in it where they are
+pub stored_now : (st : Setting) (o : CallOpening) (events : List law.Event) → st.stored ≡ true → (newest_setting st o events).stored ≡ true
+stored_now st o events stored = ap (λ (s : Setting). s.stored) (behind_since events (first_setting st o)) ∙ stored
 
 -- ---- events that are no recovery
 
@@ -297,7 +301,7 @@ module _ {M : Type 0} (represents : Setting → ℕ → Machine → M → Type 0
 
 -- ---- where it begins
 
-module _ {M : Type 0} (represents : Setting → ℕ → Machine → M → Type 0) (xs : List M) (engine : Engine) (store : StoreView) (next left : ℕ) (p : Parts M)
+module _ {M : Type 0} (represents : Setting → ℕ → Machine → M → Type 0) (xs : List M) (engine : Engine) (store : Option StoreView) (next left : ℕ) (p : Parts M)
     (began : (st : Setting) (base : BaseView) (before : Cluster) → StartsSaving represents xs engine store next left st base before → IsSavingClusterOf represents (going_on st base.numbers base.number) p (law.recovers st base before))
     (failures : List FailureAt) where
   pub opens_call : (st : Setting) (o : CallOpening) → StartsCall represents xs engine store next left failures st o → OpensCall represents p failures st o
@@ -353,7 +357,7 @@ record_free represents v st o events c is = others_held v.failures st o events c
 
 -- ---- where it goes back
 
-module _ {M : Type 0} (represents : Setting → ℕ → Machine → M → Type 0) (old new : TraceView M) (failures : new.failures ≡ old.failures) (xs : List M) (engine : Engine) (store : StoreView)
+module _ {M : Type 0} (represents : Setting → ℕ → Machine → M → Type 0) (old new : TraceView M) (failures : new.failures ≡ old.failures) (xs : List M) (engine : Engine) (store : Option StoreView)
     (dones : (a : ℕ) → a < length old.now.machines.items → InEachTrace represents old (λ st o events c. slice_index_or new.done a 0 ≡ completed (c.machine a)))
     (recovered : (st : Setting) (c : Cluster) (base : BaseView) → GoesOnWith represents old.now xs engine store st c base → IsSavingClusterOf represents (going_on st base.numbers base.number) new.now (law.recovers st base c)) where
   module _ (st : Setting) (o : CallOpening) (events : List law.Event) (c : Cluster) (base : BaseView) (goes : GoesBackWith represents old xs engine store st o events c base) where
@@ -400,7 +404,7 @@ module _ {M : Type 0} (represents : Setting → ℕ → Machine → M → Type 0
   gone_back st o events c base goes = back_now st o events c base goes
 
 -- what the type shows of it
-module _ {M : Type 0} (represents : Setting → ℕ → Machine → M → Type 0) (v own : TraceView M) (view_is : v ≡ own) (xs : List M) (engine : Engine) (store : StoreView) where
+module _ {M : Type 0} (represents : Setting → ℕ → Machine → M → Type 0) (v own : TraceView M) (view_is : v ≡ own) (xs : List M) (engine : Engine) (store : Option StoreView) where
   pub again_seen : (st : Setting) × (base : BaseView) × (before : Cluster) × StartsSaving represents xs engine store own.now.next own.now.left st base before →
       (st : Setting) × (base : BaseView) × (before : Cluster) × StartsSaving represents xs engine store v.now.next v.now.left st base before
   again_seen = subst (λ (x : TraceView M). (st : Setting) × (base : BaseView) × (before : Cluster) × StartsSaving represents xs engine store x.now.next x.now.left st base before) (sym view_is)

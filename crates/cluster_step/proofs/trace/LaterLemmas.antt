@@ -1,5 +1,5 @@
 -- A course whose cluster was out for a while.
-use Rattle.std.proofs.Common.{ap, length, sym, ◌∙◌, ◌≡◌, ℕ}
+use Rattle.std.proofs.Common.{ap, length, ◌∙◌, ◌≡◌, ℕ}
 use Rattle.cluster_step.specs.trace.Later.{IsLaterInAttempt, apart_now, with_cluster}
 use Rattle.cluster_step.specs.trace.Traces.{IsSameAttempt, Machine, Parts, Setting, TraceView}
 

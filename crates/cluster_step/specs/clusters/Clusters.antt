@@ -7,7 +7,7 @@ pub use Rattle.coordinator.specs.machine_api.Going.{IsGoing, IsSnapSetting}
 pub use Rattle.cluster_step.specs.clusters.Lines.{AreReports, messages_on, told_on}
 pub use Rattle.coordinator.specs.machine_api.Promises.{Machine, Setting}
 pub use Rattle.cluster_step.specs.declared.clusters.parts.Parts.{Parts}
-use Rattle.std.specs.Prelude.{List, false, length, slice_index_or, suc, ℕ, ◌+◌, ◌<◌, ◌^◌, ◌≡◌}
+use Rattle.std.specs.Prelude.{List, None, Option, Some, false, length, slice_index_or, suc, true, ℕ, ◌+◌, ◌<◌, ◌^◌, ◌≡◌}
 use Rattle.cluster_laws.specs.cluster_core.Recovering.{going_on}
 use Rattle.cluster_laws.specs.cluster_model.Events.{MayOccur, Recover, recovers}
 use Rattle.graph_core.specs.DataGraph.{size}
@@ -44,22 +44,32 @@ StandsForSameSaving represents old new = InEachCluster represents old (λ st c. 
 
 -- ---- where it begins
 
--- The machines begin an attempt from this base, whatever was before, in a cluster of this setting, whose engine is this one; the store is
--- that of the base and of the graph. Of the base's order nothing is asked, nor that its numbers are the replay of that.
-pub record StartsSaving {M : Type 0} (represents : Setting → ℕ → Machine → M → Type 0) (xs : List M) (engine : Engine) (store : StoreView) (next left : ℕ) (st : Setting) (base : BaseView) (before : Cluster) : Type 0 where
-  pub setting : IsSnapSetting st
-  pub led : IsEngineOf engine st.engine
-  pub many : length xs ≡ st.machines
-  pub each : (a : ℕ) (d : M) → a < st.machines → represents (going_on st base.numbers base.number) a ((recovers st base before).machine a) (slice_index_or xs a d)
+-- Snapshots are taken, and the store is that of the base and of the graph.
+pub record IsStoreFor (store : StoreView) (st : Setting) (base : BaseView) (before : Cluster) : Type 0 where
+  pub stored : st.stored ≡ true
   pub vertices : size st.graph ≡ store.vertices
   pub edges : length st.graph.edges ≡ store.edges
   pub newest : base.number ≡ store.newest
   pub store_end : (recovers st base before).coordinator.store_end ≡ store.store_end
+
+-- without a store no snapshots are taken
+abbrev pub BeginsWith : Option StoreView → Setting → BaseView → Cluster → Type 0
+BeginsWith None st base before = st.stored ≡ false
+BeginsWith (Some store) st base before = IsStoreFor store st base before
+
+-- The machines begin an attempt from this base, whatever was before, in a cluster of this setting, whose engine is this one, with this store
+-- or without one. Of the base's order nothing is asked, nor that its numbers are the replay of that.
+pub record StartsSaving {M : Type 0} (represents : Setting → ℕ → Machine → M → Type 0) (xs : List M) (engine : Engine) (store : Option StoreView) (next left : ℕ) (st : Setting) (base : BaseView) (before : Cluster) : Type 0 where
+  pub setting : IsSnapSetting st
+  pub led : IsEngineOf engine st.engine
+  pub many : length xs ≡ st.machines
+  pub each : (a : ℕ) (d : M) → a < st.machines → represents (going_on st base.numbers base.number) a ((recovers st base before).machine a) (slice_index_or xs a d)
+  pub begins : BeginsWith store st base before
   pub first : before.next ≡ next
   pub tickets : before.left ≡ left
 
 -- Recover may occur in this cluster, for which the parts stand, and the machines begin again from its base.
-pub record GoesOnWith {M : Type 0} (represents : Setting → ℕ → Machine → M → Type 0) (old : Parts M) (xs : List M) (engine : Engine) (store : StoreView) (st : Setting) (c : Cluster) (base : BaseView) : Type 0 where
+pub record GoesOnWith {M : Type 0} (represents : Setting → ℕ → Machine → M → Type 0) (old : Parts M) (xs : List M) (engine : Engine) (store : Option StoreView) (st : Setting) (c : Cluster) (base : BaseView) : Type 0 where
   pub stood : IsSavingClusterOf represents st old c
   pub may : MayOccur st c (Recover base)
   pub starts : StartsSaving represents xs engine store old.next old.left st base c

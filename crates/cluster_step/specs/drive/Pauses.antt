@@ -1,5 +1,5 @@
 -- Where the rounds of an attempt pause.
-pub use Rattle.cluster_step.specs.trace.Traces.{CallOpening, Cluster, TraceView, InEachTrace, IsSameAttempt, Machine, Setting}
+pub use Rattle.cluster_step.specs.trace.Traces.{CallOpening, Cluster, TraceGoesOn, TraceView, InEachTrace, IsSameAttempt, Machine, Setting, as_since}
 pub use Rattle.cluster_step.specs.trace.Calls.{HasEndedCall, HasTaskLeft, LeavesNothing, OfTheCall}
 pub use Rattle.cluster_step.specs.trace.Events.{GoesOnBy}
 pub use Rattle.cluster_step.specs.clusters.Events.{NamesItsMachines}
@@ -22,10 +22,10 @@ NoneReached represents v = (a : ℕ) → a < length v.now.machines.items → InE
 abbrev pub IsReachedAt : {M : Type 0} → (Setting → ℕ → Machine → M → Type 0) → TraceView M → MachineNo → Type 0
 IsReachedAt represents v m = (m.0 < length v.now.machines.items) × InEachTrace represents v (λ st o events c. has_reached v.failures c m.0 ≡ true)
 
--- no ticket is left of the budget, and a task is; and a store that has as many snapshots as may be lacks none
+-- no ticket is left of the budget, and a task is; and where snapshots are taken a store that has as many as may be lacks none
 abbrev pub IsSpentNow : {M : Type 0} → (Setting → ℕ → Machine → M → Type 0) → TraceView M → Type 0
 IsSpentNow represents v =
-    OfTheCall represents v (λ st o c call. (length (made_of call) ≡ o.first.left) × HasTaskLeft st call × LacksNoSnapshot st c.coordinator call)
+    OfTheCall represents v (λ st o c call. (length (made_of call) ≡ o.first.left) × HasTaskLeft st call × (st.stored ≡ true → LacksNoSnapshot st c.coordinator call))
 
 -- a machine has a task
 abbrev pub HasFlaggedTask : {M : Type 0} → (Setting → ℕ → Machine → M → Type 0) → TraceView M → Type 0
@@ -33,7 +33,7 @@ HasFlaggedTask represents v = (a : ℕ) × (a < length v.now.machines.items) × 
 
 -- A machine has reached the count of a failure; and else a record is due, which may follow those of the call; or the call has ended; or it
 -- leaves nothing; or it needs more of the store; or no ticket is left of the budget, and a machine has a task, which is one after the call's
--- order, and no snapshot lacks of a full store.
+-- order, and a full store lacks no snapshot.
 abbrev pub PauseMeaning : {M : Type 0} → (Setting → ℕ → Machine → M → Type 0) → TraceView M → Pause → Type 0
 PauseMeaning represents v (Reached m) = IsReachedAt represents v m
 PauseMeaning represents v (Record k) = NoneReached represents v × IsDueOf v.now.coordinator (due.Record k) × OfTheCall represents v (λ st o c call. MayFollow st c.coordinator call)

@@ -17,11 +17,11 @@ use Rattle.call_laws.specs.whole_calls.Lost.{AreLostIn}
 use Rattle.call_laws.specs.whole_calls.Saved.{AreNextOrders, AreSnapshotsOf, fronts_in, recorded_in}
 use Rattle.call_laws.specs.whole_calls.Telling.{CallReport}
 
--- These events make this call: it keeps its windows, the snapshots that were acknowledged are its, and what waves and tickets tell is so
--- of it.
+-- These events make this call: where snapshots are taken it keeps its windows, the snapshots that were acknowledged are its, and what waves
+-- and tickets tell is so of it.
 pub record MakesCall (st : Setting) (failures : List FailureAt) (o : CallOpening) (events : List law.Event) (c : Cluster) (call : EngineCall) : Type 0 where
   pub is : IsCallOf st failures o.kept o.resumed c call
-  pub windows : KeepsWindows st failures call
+  pub windows : st.stored ≡ true → KeepsWindows st failures call
   pub snapshots : AreSnapshotsOf st o.base.number o.kept (recorded_in (first_setting st o) (first_cluster st o) events) (snapshots_of call)
   pub few : 0 < half_window st → length (snapshots_of call) + under_way c ≤ o.first.left / half_window st + 1
   pub tells : CallReport st o.first.left c call
@@ -44,13 +44,13 @@ pub record LeavesNothing (st : Setting) (call : EngineCall) : Type 0 where
   pub tasks : (u : ℕ) → u < size st.graph → tasks_after st.graph st.program (call_order call) u ≡ false
   pub unharmed : call.last.struck ≡ 0
 
--- No task is left after the call's order, no failure was reached in its last attempt, and the call has a snapshot, of which the last has the
--- whole order.
+-- No task is left after the call's order, and no failure was reached in its last attempt; and where snapshots are taken the call has one, and
+-- the last has the whole order.
 pub record HasEndedCall (st : Setting) (call : EngineCall) : Type 0 where
   pub tasks : (u : ℕ) → u < size st.graph → tasks_after st.graph st.program (call_order call) u ≡ false
   pub unharmed : call.last.struck ≡ 0
-  pub some : 1 ≤ length (snapshots_of call)
-  pub saved : last_order call.base (snapshots_of call) ≡ call_order call
+  pub some : st.stored ≡ true → 1 ≤ length (snapshots_of call)
+  pub saved : st.stored ≡ true → last_order call.base (snapshots_of call) ≡ call_order call
 
 -- a task is left after the call's order
 abbrev pub HasTaskLeft : Setting → EngineCall → Type 0

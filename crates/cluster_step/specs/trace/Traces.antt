@@ -6,7 +6,7 @@ pub use Rattle.coordinator.specs.coord_core.Coordinators.{StoreView}
 pub use Rattle.cluster_step.specs.clusters.Clusters.{Engine, IsSavingClusterOf, IsSnapSetting, StartsSaving}
 pub use Rattle.cluster_step.specs.declared.clusters.parts.Parts.{Parts}
 use Rattle.std.specs.List.{AllByRecursion}
-use Rattle.std.specs.Prelude.{Bool, List, [], length, slice_index_or, ℕ, ◌++◌, ◌<◌, ◌∷◌, ◌≡◌, ◌≢◌}
+use Rattle.std.specs.Prelude.{Bool, List, Option, [], length, slice_index_or, ℕ, ◌++◌, ◌<◌, ◌∷◌, ◌≡◌, ◌≢◌}
 use Rattle.gl_base.specs.declared.entries.Entry.{Entry}
 use Rattle.gl_base.specs.declared.jobs.FailureAt.{FailureAt}
 use Rattle.cluster_laws.specs.cluster_core.Recovering.{going_on}
@@ -92,22 +92,23 @@ pub record IsSameAttempt {M : Type 0} (old new : TraceView M) : Type 0 where
 
 -- ---- where it goes back
 
--- Recover may occur in this course and follows the job, and the machines begin again from its base, with this engine and this store.
-pub record GoesBackWith {M : Type 0} (represents : Setting → ℕ → Machine → M → Type 0) (old : TraceView M) (xs : List M) (engine : Engine) (store : StoreView) (st : Setting) (o : CallOpening) (events : List law.Event) (c : Cluster) (base : BaseView) : Type 0 where
+-- Recover may occur in this course and follows the job, and the machines begin again from its base, with this engine, and with this store
+-- or without one.
+pub record GoesBackWith {M : Type 0} (represents : Setting → ℕ → Machine → M → Type 0) (old : TraceView M) (xs : List M) (engine : Engine) (store : Option StoreView) (st : Setting) (o : CallOpening) (events : List law.Event) (c : Cluster) (base : BaseView) : Type 0 where
   pub is : IsTraceNow represents old st o events c
   pub may : law.MayOccur (newest_setting st o events) c (law.Recover base)
   pub follows : FollowsJob (newest_setting st o events) old.failures c (law.Recover base)
   pub starts : StartsSaving represents xs engine store old.now.next old.now.left (newest_setting st o events) base c
 
 -- each that may has gone back
-abbrev pub HasGoneBack : {M : Type 0} → (Setting → ℕ → Machine → M → Type 0) → TraceView M → List M → Engine → StoreView → TraceView M → Type 0
+abbrev pub HasGoneBack : {M : Type 0} → (Setting → ℕ → Machine → M → Type 0) → TraceView M → List M → Engine → Option StoreView → TraceView M → Type 0
 HasGoneBack represents old xs engine store new =
     (st : Setting) (o : CallOpening) (events : List law.Event) (c : Cluster) (base : BaseView) → GoesBackWith represents old xs engine store st o events c base →
     IsTraceNow represents new st o (events ++ law.Recover base ∷ []) (law.recovers (newest_setting st o events) base c)
 
 -- ---- where it begins
 
--- The machines begin the call's first attempt, with this engine and this store, in this setting.
-pub record StartsCall {M : Type 0} (represents : Setting → ℕ → Machine → M → Type 0) (xs : List M) (engine : Engine) (store : StoreView) (next left : ℕ) (failures : List FailureAt) (st : Setting) (o : CallOpening) : Type 0 where
+-- The machines begin the call's first attempt in this setting, with this engine, and with this store or without one.
+pub record StartsCall {M : Type 0} (represents : Setting → ℕ → Machine → M → Type 0) (xs : List M) (engine : Engine) (store : Option StoreView) (next left : ℕ) (failures : List FailureAt) (st : Setting) (o : CallOpening) : Type 0 where
   pub starts : StartsSaving represents xs engine store next left st o.base o.first
   pub opened : IsOpened st failures o.kept o.resumed o.base o.first

@@ -1,5 +1,5 @@
 //! A cluster that takes snapshots.
-ghost use Rattle.std.specs.Prelude.{◌≡◌, ◌+◌, ◌^◌, ◌<◌, ◌≤◌, ◌↔◌, false, length, slice_get, slice_index_or, IfOk, IfSome, IfNone, IsErrOf, IsTrue, OnOk, OnErr, Some};
+ghost use Rattle.std.specs.Prelude.{◌≡◌, ◌+◌, ◌^◌, ◌<◌, ◌≤◌, ◌↔◌, false, true, length, option_map, slice_get, slice_index_or, IfOk, IfSome, IfNone, IsErrOf, IsTrue, OnOk, OnErr, Some};
 ghost use Rattle.std.specs.List.{AllByRecursion};
 ghost use Rattle.call_laws.specs.whole_calls.Telling.{HasNoWordAt};
 ghost use Rattle.cluster_laws.specs.cluster_core.Recovering.{going_on};
@@ -42,30 +42,33 @@ impl<M: SavingMachine> Model for SnapCluster<M> {
 }
 
 impl<M: SavingMachine> SnapCluster<M> {
-    /// A cluster of machines that begin an attempt, each at its place, with this engine and this
-    /// store. The first update gets the ticket
-    /// `next`, and there are `left` of them. Of the base only what the machines have of it is asked: it may be one that another hand made.
+    /// A cluster of machines that begin an attempt, each at its place, with this engine, and with
+    /// this store or without one. The first update gets the ticket `next`, and there are `left` of
+    /// them. Of the base only what the machines have of it is asked: it may be one that another
+    /// hand made.
     pub fn new(
         alloc: Global,
         machines: Vec<M>,
         engine: Engine,
-        store: Store,
+        store: Option<Store>,
         next: u64,
         left: u64,
     ) -> Result<SnapCluster<M>, NoMemory>
         requires start { (st : Setting) × (base : BaseView) × (before : Cluster) ×
-            StartsSaving M.represents machines.items engine (store_view store)
+            StartsSaving M.represents machines.items engine (option_map store_view store)
             next left st base before }
         requires many { length machines.items < 65535 }
         requires few { next + left < 2 ^ 64 }
-        requires newest { store.newest + 1 < 2 ^ 32 }
-        requires length { store.length < 2 ^ 32 }
+        requires newest { IfSome store (λ s. s.newest + 1 < 2 ^ 32) }
+        requires length { IfSome store (λ s. s.length < 2 ^ 32) }
         // It is what the law begins with, whatever was before.
         ensures began { IfOk result (λ c. (st : Setting) (base : BaseView) (before : Cluster) →
-            StartsSaving M.represents machines.items engine (store_view store)
+            StartsSaving M.represents machines.items engine (option_map store_view store)
             next left st base before →
             IsSavingClusterOf M.represents (going_on st base.numbers base.number) c
             (recovers st base before)) }
+        ensures machines { IfOk result (λ c. c.machines.items ≡ machines.items) }
+        ensures runs { IfOk result (λ c. c.stopped ≡ false) }
     {
         let parts = first_parts(alloc, machines, engine, store, next, left)?;
         Ok(SnapCluster { parts })
@@ -114,16 +117,16 @@ impl<M: SavingMachine> SnapCluster<M> {
         alloc: Global,
         machines: Vec<M>,
         engine: Engine,
-        store: Store,
+        store: Option<Store>,
     ) -> Result<(), NoMemory>
         requires again { (st : Setting) × (base : BaseView) × (before : Cluster) ×
-            StartsSaving M.represents machines.items engine (store_view store) self.old.next
+            StartsSaving M.represents machines.items engine (option_map store_view store) self.old.next
             self.old.left st base before }
         requires many { length machines.items ≡ length self.old.machines.items }
-        requires newest { store.newest + 1 < 2 ^ 32 }
-        requires length { store.length < 2 ^ 32 }
+        requires newest { IfSome store (λ s. s.newest + 1 < 2 ^ 32) }
+        requires length { IfSome store (λ s. s.length < 2 ^ 32) }
         ensures recovered { OnOk result ((st : Setting) (c : Cluster) (base : BaseView) →
-            GoesOnWith M.represents self.old machines.items engine (store_view store) st c base →
+            GoesOnWith M.represents self.old machines.items engine (option_map store_view store) st c base →
             IsSavingClusterOf M.represents (going_on st base.numbers base.number)
             self.new (recovers st base c)) }
         ensures unchanged { OnErr result (self.new ≡ self.old) }
@@ -172,11 +175,11 @@ impl<M: SavingMachine> SnapCluster<M> {
         self.parts.recorded(number);
     }
 
-    /// How many snapshots are stored: the number of the newest acknowledged one. Each that was
-    /// acknowledged in this attempt is a consistent cut: its numbers are the replay of a valid
-    /// order on the undivided graph.
+    /// How many snapshots are stored, where they are taken: the number of the newest acknowledged
+    /// one. Each that was acknowledged in this attempt is a consistent cut: its numbers are the
+    /// replay of a valid order on the undivided graph.
     pub fn stored(&self) -> u32
-        ensures number { InEachCluster M.represents self.now (λ st c.
+        ensures number { InEachCluster M.represents self.now (λ st c. st.stored ≡ true →
             result ≡ c.coordinator.acknowledged) }
         ensures cuts { InEachCluster M.represents self.now (λ st c.
             AllByRecursion (IsSnapshotCut st c) c.coordinator.snapshots) }

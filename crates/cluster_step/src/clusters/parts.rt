@@ -1,5 +1,5 @@
 //! The machines of a cluster that takes snapshots, their links, the coordinator, and the tickets.
-ghost use Rattle.std.specs.Prelude.{◌≡◌, ◌+◌, ◌-◌, ◌^◌, ◌<◌, ◌≤◌, ◌⊎◌, true, false, length, replicate, slice_index_or, IfOk, IfSome, IfNone, IsErrOf, IsTrue, OnOk};
+ghost use Rattle.std.specs.Prelude.{◌≡◌, ◌+◌, ◌-◌, ◌^◌, ◌<◌, ◌≤◌, ◌⊎◌, true, false, length, option_map, replicate, slice_index_or, IfOk, IfSome, IfNone, IsErrOf, IsTrue, OnOk};
 ghost use Rattle.cluster_laws.specs.cluster_core.Recovering.{going_on};
 ghost use Rattle.cluster_laws.specs.cluster_model.Events.{recovers};
 ghost use Rattle.cluster_step.specs.clusters.Inner.Writing.{HasLinkBetween};
@@ -533,24 +533,23 @@ pub(crate) fn first_parts<M: SavingMachine>(
     alloc: Global,
     machines: Vec<M>,
     engine: Engine,
-    store: Store,
+    store: Option<Store>,
     next: u64,
     left: u64,
 ) -> Result<Parts<M>, NoMemory>
     requires many { length machines.items < 65535 }
     requires few { next + left < 2 ^ 64 }
-    requires newest { store.newest + 1 < 2 ^ 32 }
-    requires length { store.length < 2 ^ 32 }
+    requires newest { IfSome store (λ s. s.newest + 1 < 2 ^ 32) }
+    requires length { IfSome store (λ s. s.length < 2 ^ 32) }
     ensures began { IfOk result (λ p. (st : Setting) (base : BaseView) (before : Cluster) →
-        StartsSaving M.represents machines.items engine (store_view store)
-        next left st base before →
+        StartsSaving M.represents machines.items engine (option_map store_view store) next left st base before →
         IsSavingClusterOf M.represents (going_on st base.numbers base.number) p
         (recovers st base before)) }
     ensures machines { IfOk result (λ p. p.machines.items ≡ machines.items) }
 {
     let many = machines.len();
     let links = Links::new(alloc, many + 1)?;
-    let coordinator = Coordinator::new(alloc, many as u16, engine, Some(store))?;
+    let coordinator = Coordinator::new(alloc, many as u16, engine, store)?;
     let failed = none_failed(alloc, many)?;
     Ok(Parts {
         machines,

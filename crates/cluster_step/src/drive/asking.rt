@@ -1,5 +1,5 @@
 //! Whether a store that has as many snapshots as may be lacks one.
-ghost use Rattle.std.specs.Prelude.{ℕ, ◌<◌, IsTrue};
+ghost use Rattle.std.specs.Prelude.{ℕ, ◌<◌, ◌≡◌, true, IsTrue};
 ghost use Rattle.call_laws.specs.whole_calls.Telling.{AsksForNone, HasNoWordAt, AwaitsNoSnapshot, LacksNoSnapshot, NeedsMoreStore};
 ghost use Rattle.cluster_laws.specs.cluster_model.Working.{half_window};
 ghost use Rattle.cluster_step.specs.drive.Pauses.{InEachTrace, OfTheCall};
@@ -19,10 +19,11 @@ pub(crate) fn is_full<M: SavingMachine>(trace: &Trace<M>) -> bool
     coordinator.is_under_way()
 }
 
-/// Whether the store takes one snapshot more, or nobody asks for one.
+/// Whether the store takes one snapshot more, or nobody asks for one, where snapshots are taken.
 pub(crate) fn lacks_no_snapshot<M: SavingMachine>(trace: &Trace<M>) -> bool
     ensures { IsTrue result →
-        OfTheCall M.represents trace.now (λ st o c call. LacksNoSnapshot st c.coordinator call) }
+        OfTheCall M.represents trace.now (λ st o c call. st.stored ≡ true →
+        LacksNoSnapshot st c.coordinator call) }
 {
     if trace.coordinator().stored() < MAX_SNAPSHOTS {
         return true;
@@ -34,8 +35,8 @@ pub(crate) fn lacks_no_snapshot<M: SavingMachine>(trace: &Trace<M>) -> bool
 /// the coordinator and a machine.
 fn asks_for_none<M: SavingMachine>(trace: &Trace<M>) -> bool
     ensures { IsTrue result →
-        InEachTrace M.represents trace.now (λ st o events c. 0 < half_window st →
-        AsksForNone st c) }
+        InEachTrace M.represents trace.now (λ st o events c. st.stored ≡ true →
+        0 < half_window st → AsksForNone st c) }
 {
     if !is_settled(trace) {
         return false;
@@ -46,7 +47,8 @@ fn asks_for_none<M: SavingMachine>(trace: &Trace<M>) -> bool
 /// Whether no snapshot is under way, and none is due.
 fn is_settled<M: SavingMachine>(trace: &Trace<M>) -> bool
     ensures { IsTrue result →
-        InEachTrace M.represents trace.now (λ st o events c. AwaitsNoSnapshot st c.coordinator) }
+        InEachTrace M.represents trace.now (λ st o events c. st.stored ≡ true →
+        AwaitsNoSnapshot st c.coordinator) }
 {
     match trace.due() {
         Due::Snapshot(_) => false,

@@ -1,6 +1,6 @@
 //! Events that happen, or may not happen now.
-ghost use Rattle.std.specs.Prelude.{◌<◌, ◌≡◌, length};
-ghost use Rattle.cluster_step.specs.drive.Pauses.{GoesOnBy, IsSameAttempt, NamesItsMachines};
+ghost use Rattle.std.specs.Prelude.{◌<◌, ◌≡◌, length, OnErr};
+ghost use Rattle.cluster_step.specs.drive.Pauses.{GoesOnBy, IsSameAttempt, NamesItsMachines, TraceGoesOn, as_since};
 
 use crate::trace::{Event, SavingMachine, Trace};
 use gl_base::{MachineNo, NoMemory, Refused};
@@ -12,7 +12,8 @@ pub(crate) fn happens<M: SavingMachine>(
 ) -> Result<bool, NoMemory>
     requires names { NamesItsMachines (length trace.old.now.machines.items) event }
     requires none { GoesOnBy event }
-    ensures { IsSameAttempt trace.old trace.new }
+    ensures same { IsSameAttempt trace.old trace.new }
+    ensures on { OnErr result (TraceGoesOn M.represents (as_since trace.new) trace.new) }
 {
     match trace.apply(event) {
         Ok(()) => Ok(true),
@@ -27,7 +28,8 @@ pub(crate) fn is_made_at_once<M: SavingMachine>(
     at: MachineNo,
 ) -> Result<bool, NoMemory>
     requires { at.0 < length trace.old.now.machines.items }
-    ensures { IsSameAttempt trace.old trace.new }
+    ensures same { IsSameAttempt trace.old trace.new }
+    ensures on { OnErr result (TraceGoesOn M.represents (as_since trace.new) trace.new) }
 {
     match trace.update_at_once(at) {
         Ok(_) => Ok(true),
@@ -43,7 +45,8 @@ pub(crate) fn exhaust<M: SavingMachine>(
 ) -> Result<bool, NoMemory>
     requires names { NamesItsMachines (length trace.old.now.machines.items) event }
     requires none { GoesOnBy event }
-    ensures { IsSameAttempt trace.old trace.new }
+    ensures same { IsSameAttempt trace.old trace.new }
+    ensures on { OnErr result (TraceGoesOn M.represents (as_since trace.new) trace.new) }
 {
     for times in 0..u64::MAX {
         if !happens(trace, event)? {

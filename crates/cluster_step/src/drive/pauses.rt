@@ -1,6 +1,6 @@
 //! Where the rounds of an attempt pause.
 ghost use Rattle.std.specs.Prelude.{◌≡◌, false, IfNone, IfSome, IsTrue};
-ghost use Rattle.cluster_step.specs.drive.Pauses.{HasFlaggedTask, HasTaskLeft, IsReachedAt, IsSpentNow, NoneReached, OfTheCall, PauseMeaning};
+ghost use Rattle.cluster_step.specs.drive.Pauses.{HasFlaggedTask, HasTaskLeft, IsReachedAt, IsSpentNow, NoneReached, OfTheCall, PauseMeaning, TraceGoesOn, as_since};
 
 use crate::drive::asking::{is_full, lacks_no_snapshot};
 use crate::trace::{Due, SavingMachine, Trace};
@@ -28,6 +28,7 @@ pub enum Pause {
 pub(crate) fn pause_of<M: SavingMachine>(trace: &Trace<M>, saves_end: bool) -> Option<Pause>
     ensures pause { IfSome result (PauseMeaning M.represents trace.now) }
     ensures unsaved { IfSome result (λ pause. pause ≡ Pause.Quiet → saves_end ≡ false) }
+    ensures since { TraceGoesOn M.represents (as_since trace.now) trace.now }
 {
     match first_reached(trace) {
         Some(m) => Some(Pause::Reached(m)),
@@ -84,6 +85,7 @@ pub(crate) fn is_spent<M: SavingMachine>(trace: &Trace<M>) -> bool
 pub(crate) fn first_reached<M: SavingMachine>(trace: &Trace<M>) -> Option<MachineNo>
     ensures some { IfSome result (IsReachedAt M.represents trace.now) }
     ensures none { IfNone result (NoneReached M.represents trace.now) }
+    ensures since { TraceGoesOn M.represents (as_since trace.now) trace.now }
 {
     for m in 0..trace.machines() {
         let at = MachineNo(m as u16);

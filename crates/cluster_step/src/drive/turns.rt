@@ -1,6 +1,6 @@
 //! A machine's turn in a round, and the coordinator's.
-ghost use Rattle.std.specs.Prelude.{◌≡◌, ◌^◌, ◌<◌, length};
-ghost use Rattle.cluster_step.specs.drive.Pauses.{IsSameAttempt};
+ghost use Rattle.std.specs.Prelude.{◌≡◌, ◌^◌, ◌<◌, length, OnErr};
+ghost use Rattle.cluster_step.specs.drive.Pauses.{IsSameAttempt, TraceGoesOn, as_since};
 
 use crate::drive::happenings::{exhaust, happens, is_made_at_once};
 use crate::trace::{Due, Event, Lead, Local, Passage, SavingMachine, Trace};
@@ -14,7 +14,8 @@ const TASKS_IN_A_TURN: u32 = 16;
 /// count of a failure ends the round, so that no other machine makes an update before the failure.
 /// Says whether anything moved.
 pub(crate) fn round<M: SavingMachine>(trace: &mut Trace<M>) -> Result<bool, NoMemory>
-    ensures { IsSameAttempt trace.old trace.new }
+    ensures same { IsSameAttempt trace.old trace.new }
+    ensures on { OnErr result (TraceGoesOn M.represents (as_since trace.new) trace.new) }
 {
     let mut moved = false;
     for m in 0..trace.machines() {
@@ -31,7 +32,8 @@ pub(crate) fn round<M: SavingMachine>(trace: &mut Trace<M>) -> Result<bool, NoMe
 
 /// The coordinator's turn, where so much has moved before. Says whether anything moved.
 fn lead<M: SavingMachine>(trace: &mut Trace<M>, moved: bool) -> Result<bool, NoMemory>
-    ensures { IsSameAttempt trace.old trace.new }
+    ensures same { IsSameAttempt trace.old trace.new }
+    ensures on { OnErr result (TraceGoesOn M.represents (as_since trace.new) trace.new) }
 {
     match trace.due() {
         Due::Snapshot(_) => happens(trace, Event::Lead(Lead::Begin)),
@@ -51,7 +53,8 @@ fn lead<M: SavingMachine>(trace: &mut Trace<M>, moved: bool) -> Result<bool, NoM
 /// anything moved.
 fn turn<M: SavingMachine>(trace: &mut Trace<M>, at: MachineNo) -> Result<bool, NoMemory>
     requires { at.0 < length trace.old.now.machines.items }
-    ensures { IsSameAttempt trace.old trace.new }
+    ensures same { IsSameAttempt trace.old trace.new }
+    ensures on { OnErr result (TraceGoesOn M.represents (as_since trace.new) trace.new) }
 {
     let worked = work(trace, at)?;
     let told = tell_all(trace, at)?;
@@ -63,7 +66,8 @@ fn turn<M: SavingMachine>(trace: &mut Trace<M>, at: MachineNo) -> Result<bool, N
 /// count of a failure. Says whether anything moved.
 fn work<M: SavingMachine>(trace: &mut Trace<M>, at: MachineNo) -> Result<bool, NoMemory>
     requires { at.0 < length trace.old.now.machines.items }
-    ensures { IsSameAttempt trace.old trace.new }
+    ensures same { IsSameAttempt trace.old trace.new }
+    ensures on { OnErr result (TraceGoesOn M.represents (as_since trace.new) trace.new) }
 {
     let mut moved = settle(trace, at)?;
     for _ in 0..TASKS_IN_A_TURN {
@@ -79,7 +83,8 @@ fn work<M: SavingMachine>(trace: &mut Trace<M>, at: MachineNo) -> Result<bool, N
 /// as far as it may. Says whether there was one.
 fn take_up<M: SavingMachine>(trace: &mut Trace<M>, at: MachineNo) -> Result<bool, NoMemory>
     requires { at.0 < length trace.old.now.machines.items }
-    ensures { IsSameAttempt trace.old trace.new }
+    ensures same { IsSameAttempt trace.old trace.new }
+    ensures on { OnErr result (TraceGoesOn M.represents (as_since trace.new) trace.new) }
 {
     if is_made_at_once(trace, at)? {
         return Ok(true);
@@ -95,7 +100,8 @@ fn take_up<M: SavingMachine>(trace: &mut Trace<M>, at: MachineNo) -> Result<bool
 /// of a failure. Says whether there was one.
 fn settle<M: SavingMachine>(trace: &mut Trace<M>, at: MachineNo) -> Result<bool, NoMemory>
     requires { at.0 < length trace.old.now.machines.items }
-    ensures { IsSameAttempt trace.old trace.new }
+    ensures same { IsSameAttempt trace.old trace.new }
+    ensures on { OnErr result (TraceGoesOn M.represents (as_since trace.new) trace.new) }
 {
     for times in 0..u64::MAX {
         if trace.has_reached(at) || !goes_on(trace, at)? {
@@ -109,7 +115,8 @@ fn settle<M: SavingMachine>(trace: &mut Trace<M>, at: MachineNo) -> Result<bool,
 /// section is put out. Says whether there was one.
 fn goes_on<M: SavingMachine>(trace: &mut Trace<M>, at: MachineNo) -> Result<bool, NoMemory>
     requires { at.0 < length trace.old.now.machines.items }
-    ensures { IsSameAttempt trace.old trace.new }
+    ensures same { IsSameAttempt trace.old trace.new }
+    ensures on { OnErr result (TraceGoesOn M.represents (as_since trace.new) trace.new) }
 {
     if let Some(x) = trace.next_grant(at) {
         return happens(trace, Event::Local(Local::Grant(at, x)));
@@ -126,7 +133,8 @@ fn goes_on<M: SavingMachine>(trace: &mut Trace<M>, at: MachineNo) -> Result<bool
 /// An update is made at the machine, where one may be. Says whether there was one.
 fn update<M: SavingMachine>(trace: &mut Trace<M>, at: MachineNo) -> Result<bool, NoMemory>
     requires { at.0 < length trace.old.now.machines.items }
-    ensures { IsSameAttempt trace.old trace.new }
+    ensures same { IsSameAttempt trace.old trace.new }
+    ensures on { OnErr result (TraceGoesOn M.represents (as_since trace.new) trace.new) }
 {
     match trace.next_update(at) {
         Some(scope) => happens(trace, Event::Local(Local::Update(scope))),
@@ -137,7 +145,8 @@ fn update<M: SavingMachine>(trace: &mut Trace<M>, at: MachineNo) -> Result<bool,
 /// All that waits at the machine for others is sent and received. Says whether anything moved.
 fn tell_all<M: SavingMachine>(trace: &mut Trace<M>, from: MachineNo) -> Result<bool, NoMemory>
     requires { from.0 < length trace.old.now.machines.items }
-    ensures { IsSameAttempt trace.old trace.new }
+    ensures same { IsSameAttempt trace.old trace.new }
+    ensures on { OnErr result (TraceGoesOn M.represents (as_since trace.new) trace.new) }
 {
     let mut moved = false;
     for m in 0..trace.machines() {
@@ -157,7 +166,8 @@ fn tell<M: SavingMachine>(
 ) -> Result<bool, NoMemory>
     requires from { from.0 < length trace.old.now.machines.items }
     requires to { to.0 < length trace.old.now.machines.items }
-    ensures { IsSameAttempt trace.old trace.new }
+    ensures same { IsSameAttempt trace.old trace.new }
+    ensures on { OnErr result (TraceGoesOn M.represents (as_since trace.new) trace.new) }
 {
     let sent = exhaust(trace, Event::Passage(Passage::Send { from, to }))?;
     let received = exhaust(trace, Event::Passage(Passage::Deliver { from, to }))?;
@@ -168,7 +178,8 @@ fn tell<M: SavingMachine>(
 /// coordinator. Says whether anything moved.
 fn hear_and_report<M: SavingMachine>(trace: &mut Trace<M>, at: MachineNo) -> Result<bool, NoMemory>
     requires { at.0 < length trace.old.now.machines.items }
-    ensures { IsSameAttempt trace.old trace.new }
+    ensures same { IsSameAttempt trace.old trace.new }
+    ensures on { OnErr result (TraceGoesOn M.represents (as_since trace.new) trace.new) }
 {
     let heard = hear(trace, at)?;
     let reported = report(trace, at)?;
@@ -178,7 +189,8 @@ fn hear_and_report<M: SavingMachine>(trace: &mut Trace<M>, at: MachineNo) -> Res
 /// What the coordinator has for the machine is sent and received. Says whether anything moved.
 fn hear<M: SavingMachine>(trace: &mut Trace<M>, at: MachineNo) -> Result<bool, NoMemory>
     requires { at.0 < length trace.old.now.machines.items }
-    ensures { IsSameAttempt trace.old trace.new }
+    ensures same { IsSameAttempt trace.old trace.new }
+    ensures on { OnErr result (TraceGoesOn M.represents (as_since trace.new) trace.new) }
 {
     let sent = exhaust(trace, Event::Passage(Passage::SendCall(at)))?;
     let received = exhaust(trace, Event::Passage(Passage::DeliverCall(at)))?;
@@ -188,7 +200,8 @@ fn hear<M: SavingMachine>(trace: &mut Trace<M>, at: MachineNo) -> Result<bool, N
 /// What the machine has for the coordinator is sent and received. Says whether anything moved.
 fn report<M: SavingMachine>(trace: &mut Trace<M>, at: MachineNo) -> Result<bool, NoMemory>
     requires { at.0 < length trace.old.now.machines.items }
-    ensures { IsSameAttempt trace.old trace.new }
+    ensures same { IsSameAttempt trace.old trace.new }
+    ensures on { OnErr result (TraceGoesOn M.represents (as_since trace.new) trace.new) }
 {
     let sent = exhaust(trace, Event::Passage(Passage::SendReport(at)))?;
     let received = exhaust(trace, Event::Passage(Passage::DeliverReport(at)))?;

@@ -1,6 +1,6 @@
 //! An attempt of a call without a store is driven until it pauses.
 ghost use Rattle.std.specs.Prelude.{IfOk, IfSome};
-ghost use Rattle.cluster_step.specs.drive.Pauses.{IsSameAttempt, NoneReached};
+ghost use Rattle.cluster_step.specs.drive.Pauses.{IsSameAttempt, NoneReached, TraceGoesOn, as_since};
 ghost use Rattle.cluster_step.specs.drive.Unsaved.{PausesUnsaved};
 
 use crate::drive::pauses::{first_reached, is_spent};
@@ -22,12 +22,13 @@ pub enum UnsavedPause {
 
 /// Makes rounds until the attempt pauses, and says why: it pauses as soon as nothing is left to do.
 /// For want of memory the trace stays where it is. No snapshot is acknowledged, and no attempt
-/// begins.
+/// begins: each course has gone on from where the trace was remembered.
 pub fn drive_unsaved<R: Wait, M: SavingMachine>(
     rt: &R,
     trace: &mut Trace<M>,
 ) -> Result<UnsavedPause, NoMemory>
     ensures same { IsSameAttempt trace.old trace.new }
+    ensures since { TraceGoesOn M.represents (as_since trace.new) trace.new }
     ensures pause { IfOk result (PausesUnsaved M.represents trace.new) }
 {
     for _ in rt.forever() {
@@ -41,7 +42,8 @@ pub fn drive_unsaved<R: Wait, M: SavingMachine>(
 
 /// The pause, where the trace is at one.
 fn unsaved_pause<M: SavingMachine>(trace: &Trace<M>) -> Option<UnsavedPause>
-    ensures { IfSome result (PausesUnsaved M.represents trace.now) }
+    ensures pause { IfSome result (PausesUnsaved M.represents trace.now) }
+    ensures since { TraceGoesOn M.represents (as_since trace.now) trace.now }
 {
     match first_reached(trace) {
         Some(m) => Some(UnsavedPause::Reached(m)),

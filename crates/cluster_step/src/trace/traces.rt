@@ -1,9 +1,9 @@
 //! The course of a call.
-ghost use Rattle.std.specs.Prelude.{[], ◌≡◌, ◌+◌, ◌^◌, ◌<◌, ◌≤◌, ◌↔◌, ℕ, length, slice_index_or, false, true, IfNone, IfOk, IfSome, IsErrOf, IsTrue, OnErr, OnOk};
+ghost use Rattle.std.specs.Prelude.{[], ◌≡◌, ◌+◌, ◌^◌, ◌<◌, ◌≤◌, ◌↔◌, ℕ, length, option_map, slice_index_or, false, true, IfNone, IfOk, IfSome, IsErrOf, IsTrue, OnErr, OnOk};
 ghost use Rattle.call_laws.specs.attempts.EngineCalls.{done_of, first_ticket, made_of};
 ghost use Rattle.cluster_step.specs.trace.AtOnce.{CanHappenAtOnceInCall, IsLocalUpdateDisabled, HappensAtOnceInCall};
 ghost use Rattle.cluster_step.specs.trace.Calls.{HasCall, HasEndedCall, HasTaskLeft, LeavesNothing, OfTheCall};
-ghost use Rattle.cluster_step.specs.trace.Traces.{BaseView, CallOpening, Cluster, TraceGoesOn, HasTrace, HasGoneBack, InEachTrace, IsTraceNow, IsSameAttempt, OpensCall, Setting, StartsCall, StartsSaving, as_since, first_cluster, newest_setting};
+ghost use Rattle.cluster_step.specs.trace.Traces.{BaseView, CallOpening, Cluster, TraceGoesOn, HasTrace, HasGoneBack, InEachTrace, IsTraceNow, IsSameAttempt, OpensCall, Setting, StartsSaving, as_since, first_cluster, newest_setting};
 ghost use Rattle.cluster_step.specs.trace.Events.{CanHappenInCall, IsEventDisabled, HappensInCall, IsHeldBack, GoesOnBy, StaysThere};
 ghost use Rattle.cluster_laws.specs.cluster_core.Replays.{entries_of};
 ghost use Rattle.cluster_laws.specs.cluster_model.Machines.{completed};
@@ -63,41 +63,26 @@ impl<M: SavingMachine> Model for Trace<M> {
 }
 
 impl<M: SavingMachine> Trace<M> {
-    /// A call opens: its machines begin their first attempt, each at its place, with this engine
-    /// and this store. The first update gets the ticket `next`, and there are `left` of them. Of
-    /// the base only what the machines have of it is asked.
+    /// A call opens with this cluster, of which the machines begin their first attempt, and with
+    /// the failures that the job orders.
     pub fn open(
         alloc: Global,
-        machines: Vec<M>,
-        engine: Engine,
-        store: Store,
-        next: u64,
-        left: u64,
+        cluster: SnapCluster<M>,
         failures: Vec<FailureAt>,
     ) -> Result<Trace<M>, NoMemory>
-        requires start { (st : Setting) × (base : BaseView) × (before : Cluster) ×
-            StartsSaving M.represents machines.items engine (store_view store)
-            next left st base before }
-        requires many { length machines.items < 65535 }
-        requires few { next + left < 2 ^ 64 }
-        requires newest { store.newest + 1 < 2 ^ 32 }
-        requires length { store.length < 2 ^ 32 }
         ensures failures { IfOk result (λ c. c.failures ≡ failures.items) }
-        ensures first { IfOk result (λ c. c.now ≡ c.start) }
-        ensures machines { IfOk result (λ c. length c.now.machines.items ≡ length machines.items) }
-        ensures runs { IfOk result (λ c. c.now.stopped ≡ false) }
-        // It is an opening of the law, in each setting in which the machines start.
-        ensures opened { IfOk result (λ c. (st : Setting) (o : CallOpening) →
-            StartsCall M.represents machines.items engine (store_view store)
-            next left failures.items st
-            o → OpensCall M.represents c.start c.failures st o) }
-        // Nothing has happened yet.
+        ensures start { IfOk result (λ c. c.start ≡ cluster) }
+        ensures now { IfOk result (λ c. c.now ≡ cluster) }
+        // Nothing has happened yet, in each setting in which the call opens so.
         ensures begun { IfOk result (λ c. (st : Setting) (o : CallOpening) →
             OpensCall M.represents c.start c.failures st o →
             IsTraceNow M.represents c st o [] (first_cluster st o)) }
     {
-        let done = Vec::from_elem(alloc, 0, machines.len())?;
-        let cluster = SnapCluster::new(alloc, machines, engine, store, next, left)?;
+        let Ok(done) = Vec::from_elem(alloc, 0, cluster.machines()) else {
+            drop(failures);
+            drop(cluster);
+            return Err(NoMemory);
+        };
         let start = Snapshot::of(&cluster);
         let since = Snapshot::of(&cluster);
         Ok(Trace {
@@ -121,6 +106,7 @@ impl<M: SavingMachine> Trace<M> {
             CanHappenInCall M.represents self.old event }
         ensures unchanged { OnErr result (StaysThere M.represents self.old self.new) }
         ensures same { IsSameAttempt self.old self.new }
+        ensures since { TraceGoesOn M.represents (as_since self.new) self.new }
     {
         if self.is_held_back(event) {
             return Err(Refused::NotNow);
@@ -143,6 +129,7 @@ impl<M: SavingMachine> Trace<M> {
             CanHappenAtOnceInCall M.represents self.old at.0 }
         ensures unchanged { OnErr result (StaysThere M.represents self.old self.new) }
         ensures same { IsSameAttempt self.old self.new }
+        ensures since { TraceGoesOn M.represents (as_since self.new) self.new }
     {
         if self.has_reached(at) {
             return Err(Refused::NotNow);
@@ -168,16 +155,17 @@ impl<M: SavingMachine> Trace<M> {
         alloc: Global,
         machines: Vec<M>,
         engine: Engine,
-        store: Store,
+        store: Option<Store>,
     ) -> Result<(), NoMemory>
         requires again { (st : Setting) × (base : BaseView) × (before : Cluster) ×
-            StartsSaving M.represents machines.items engine (store_view store) self.old.now.next
-            self.old.now.left st base before }
+            StartsSaving M.represents machines.items engine (option_map store_view store)
+            self.old.now.next self.old.now.left st base before }
         requires many { length machines.items ≡ length self.old.now.machines.items }
-        requires newest { store.newest + 1 < 2 ^ 32 }
-        requires length { store.length < 2 ^ 32 }
+        requires newest { IfSome store (λ s. s.newest + 1 < 2 ^ 32) }
+        requires length { IfSome store (λ s. s.length < 2 ^ 32) }
         ensures recovered { OnOk result
-            (HasGoneBack M.represents self.old machines.items engine (store_view store) self.new) }
+            (HasGoneBack M.represents self.old machines.items engine
+            (option_map store_view store) self.new) }
         ensures since { OnOk result (self.new.since ≡ self.new.now) }
         ensures runs { OnOk result (self.new.now.stopped ≡ false) }
         ensures unchanged { OnErr result (self.new ≡ self.old) }

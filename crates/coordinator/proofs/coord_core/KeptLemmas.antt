@@ -1,7 +1,7 @@
 -- What always holds of what the coordinator knows of snapshots stays so.
-use Rattle.std.proofs.Common.{◌≡◌, ℕ, ◌+◌, ◌*◌, ◌^◌, ◌<◌, ◌≤◌, true, false, inl, inr, Option, None, Some, List, length, replicate, refl, sym, ap, arith, subst, ◌∙◌, get_or-set_same, get_or-set_other}
-use Rattle.std.specs.Prelude.{slice_set}
-use Rattle.std.proofs.lemmas.Bool.{cases_eq, cases_lt}
+use Rattle.std.proofs.Common.{◌≡◌, ℕ, ◌+◌, ◌*◌, ◌^◌, ◌<◌, ◌≤◌, Bool, true, false, true≢false, inl, inr, Option, None, Some, List, length, replicate, refl, sym, ap, arith, subst, ◌∙◌, get_or-set_same, get_or-set_other}
+use Rattle.std.specs.Prelude.{IsTrue, not, slice_set, ◌↔◌}
+use Rattle.std.proofs.lemmas.Bool.{cases_Bool, cases_eq, cases_lt}
 use Rattle.std.proofs.lemmas.List.{get_or-replicate, get_or_past, length-replicate, length-set}
 use Rattle.cluster_laws.specs.cluster_model.Totals.{total_from}
 use Rattle.coordinator.specs.coord_core.Inner.Kept.{IsSavingKept}
@@ -117,3 +117,15 @@ acknowledged_kept s kept due room =
       first = λ none. absurd (cc);
       apart = none_apart (length s.come);
     }
+
+-- ---- where one is under way
+
+not_so : (r : Bool) → r ≡ true → IsTrue (not r) → ⊥
+not_so true is off = true≢false (sym off)
+not_so false is off = true≢false (sym is)
+
+pub taken_where_under : (s : SavingView) → IsSavingKept s → (settled : Bool) → ((settled ≡ true) ↔ (s.acknowledged ≡ s.begun)) → IsTrue (not settled) → s.stored ≡ true
+taken_where_under s kept settled is under = elim (cases_Bool s.stored) [
+  | inl stored ↦ stored
+  | inr plain ↦ absurd (not_so settled (is.1 (kept.plain plain)) under)
+]

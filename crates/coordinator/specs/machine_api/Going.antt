@@ -1,5 +1,5 @@
 -- A cluster of the law to which events have led.
-use Rattle.std.specs.Prelude.{List, true, ⊤, ◌≡◌}
+use Rattle.std.specs.Prelude.{List, ⊤}
 use Rattle.cluster_laws.specs.cluster_core.Settings.{Chromatic, Engine, IsSetting, Locking, Setting}
 use Rattle.whole_laws.specs.cluster_ending.Ends.{IsFollowed}
 use Rattle.whole_laws.specs.cluster_ending.Snapshotting.{AreInformed, HasNoSteps}
@@ -8,11 +8,10 @@ use Rattle.whole_laws.specs.cluster_records.Recorded.{IsAccounted}
 use Rattle.whole_laws.specs.cluster_whole.Logged.{Logged}
 use Rattle.whole_laws.specs.cluster_whole.Whole.{AreColoured}
 
--- the cluster takes snapshots; and where vertices run by colours, neighbours have different ones
+-- the setting is one of a cluster; and where vertices run by colours, neighbours have different ones
 pub record IsSnapSetting (st : Setting) : Type 0 where
   pub is : IsSetting st
   pub coloured : AreColoured st st.engine
-  pub stored : st.stored ≡ true
 
 -- with locks no step is on its way to a machine
 abbrev pub KnowsNoSteps : Engine → Cluster → Type 0

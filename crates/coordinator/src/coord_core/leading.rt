@@ -294,9 +294,10 @@ impl Coordinator {
         self.saving.store_end()
     }
 
-    /// Whether a snapshot is under way.
+    /// Whether a snapshot is under way. One is only where snapshots are taken.
     pub fn is_under_way(&self) -> bool
-        ensures { IsTrue result ↔ (self.now.saving.acknowledged ≢ self.now.saving.begun) }
+        ensures is { IsTrue result ↔ (self.now.saving.acknowledged ≢ self.now.saving.begun) }
+        ensures taken { IsTrue result → self.now.saving.stored ≡ true }
     {
         !self.saving.is_settled()
     }

@@ -1,5 +1,5 @@
 -- Machines that were made for an attempt begin it in the course of a call.
-use Rattle.std.proofs.Common.{◌≡◌, ◌⊎◌, ◌+◌, ◌*◌, ◌<◌, ℕ, Bool, true, false, List, [], length, refl, sym, ap, ◌∙◌, subst, arith}
+use Rattle.std.proofs.Common.{◌≡◌, ◌⊎◌, ◌+◌, ◌*◌, ◌<◌, ℕ, Bool, Some, true, false, List, [], length, refl, sym, ap, ◌∙◌, subst, arith}
 use Rattle.gl_base.specs.declared.jobs.FailureAt.{FailureAt}
 use Rattle.gl_base.specs.declared.snapshots.Base.{Base}
 use Rattle.cluster_step.proofs.trace.Going.{setting_now}
@@ -20,19 +20,22 @@ use Rattle.engine_runs.specs.attempt_machines.Beginning.{AreAnyMachinesOf, BaseV
 none_more : (n failed : ℕ) → failed ≡ 0 → n + 16 * failed ≡ n
 none_more n failed none = omega (arith, none)
 
-pub start_call : {P : Type 0} (meaning : P → Update) (engine : Engine) (st : Setting) (failures : List FailureAt) (resumed : Bool) (base : Base) (left : ℕ) (members : List (AnyMachine P)) → IsSnapSetting st → IsEngineOf engine st.engine → IsGoodBase (shared_of st failures) base
+pub start_call : {P : Type 0} (meaning : P → Update) (engine : Engine) (st : Setting) (failures : List FailureAt) (resumed : Bool) (base : Base) (left : ℕ) (members : List (AnyMachine P)) → IsSnapSetting st → st.stored ≡ true → IsEngineOf engine st.engine → IsGoodBase (shared_of st failures) base
     → AreJobFailures st.machines failures → (resumed ≡ true) ⊎ ((resumed ≡ false) × (base.order.items ≡ [])) → AreAnyMachinesOf meaning st (base_opened resumed base) (cluster_before st (ticket_above base.order.items) left base.length) members
-    → StartsCall (IsAnyMachineOf meaning) members engine (store_from st base) (ticket_above base.order.items) left failures st (opening_from st resumed base left)
-start_call meaning engine st failures resumed base left members setting led good ordered begins are = record {
+    → StartsCall (IsAnyMachineOf meaning) members engine (Some (store_from st base)) (ticket_above base.order.items) left failures st (opening_from st resumed base left)
+start_call meaning engine st failures resumed base left members setting stored led good ordered begins are = record {
   starts = record {
     setting = setting;
     led = led;
     many = are.many;
     each = are.each;
-    vertices = refl;
-    edges = refl;
-    newest = refl;
-    store_end = none_more base.length (total st.machines (λ a. 0)) (total_from-nothing 0 st.machines (λ a. 0) (λ a. refl));
+    begins = record {
+      stored = stored;
+      vertices = refl;
+      edges = refl;
+      newest = refl;
+      store_end = none_more base.length (total st.machines (λ a. 0)) (total_from-nothing 0 st.machines (λ a. 0) (λ a. refl));
+    };
     first = refl;
     tickets = refl;
   };
@@ -58,6 +61,7 @@ module _ (st : Setting) (o : CallOpening) (events : List law.Event) where
         placed = record { graph = is.placed.graph; machines = is.placed.machines; owners = is.placed.owners };
         program_is = is.program_is;
         pipeline = is.pipeline;
+        stored = is.stored;
         window = is.window;
       })
 
@@ -66,10 +70,10 @@ module _ (st : Setting) (o : CallOpening) (events : List law.Event) where
   engine_now engine led = subst (λ (e : settings.Engine). IsEngineOf engine e) (sym (by_setting (λ s. s.engine) (λ s. refl))) led
 
   pub go_back : {P : Type 0} (meaning : P → Update) (engine : Engine) (old : TraceView (AnyMachine P)) (c : Cluster) (base : BaseView) (store : StoreView) (members : List (AnyMachine P)) → IsTraceNow (IsAnyMachineOf meaning) old st o events c
-      → IsEngineOf engine st.engine → law.GoesBackTo (newest_setting st o events) c base → c.stopped ≡ false → ((a : ℕ) → a < st.machines → has_reached old.failures c a ≡ true → (c.machine a).failed ≡ true)
+      → st.stored ≡ true → IsEngineOf engine st.engine → law.GoesBackTo (newest_setting st o events) c base → c.stopped ≡ false → ((a : ℕ) → a < st.machines → has_reached old.failures c a ≡ true → (c.machine a).failed ≡ true)
       → AreAnyMachinesOf meaning (newest_setting st o events) base c members → size st.graph ≡ store.vertices → length st.graph.edges ≡ store.edges → base.number ≡ store.newest
-      → (law.recovers (newest_setting st o events) base c).coordinator.store_end ≡ store.store_end → GoesBackWith (IsAnyMachineOf meaning) old members engine store st o events c base
-  go_back meaning engine old c base store members is led goes running failed are vertices edges newest store_end = record {
+      → (law.recovers (newest_setting st o events) base c).coordinator.store_end ≡ store.store_end → GoesBackWith (IsAnyMachineOf meaning) old members engine (Some store) st o events c base
+  go_back meaning engine old c base store members is stored led goes running failed are vertices edges newest store_end = record {
     is = is;
     may = (running, goes);
     follows = λ a low reached. failed a (subst (λ (k : ℕ). a < k) (by_setting (λ s. s.machines) (λ s. refl)) low) reached;
@@ -78,10 +82,13 @@ module _ (st : Setting) (o : CallOpening) (events : List law.Event) where
       led = engine_now engine led;
       many = are.many;
       each = are.each;
-      vertices = by_setting (λ s. size s.graph) (λ s. refl) ∙ vertices;
-      edges = by_setting (λ s. length s.graph.edges) (λ s. refl) ∙ edges;
-      newest = newest;
-      store_end = store_end;
+      begins = record {
+        stored = by_setting (λ s. s.stored) (λ s. refl) ∙ stored;
+        vertices = by_setting (λ s. size s.graph) (λ s. refl) ∙ vertices;
+        edges = by_setting (λ s. length s.graph.edges) (λ s. refl) ∙ edges;
+        newest = newest;
+        store_end = store_end;
+      };
       first = is.code.next;
       tickets = is.code.left;
     };

@@ -65,7 +65,7 @@ module _ {M : Type 0} (represents : Setting → ℕ → Machine → M → Type 0
       let call : EngineCall = made.0 in
       let of : IsCallOf st v.failures o.kept o.resumed c call = made.1 in
       let is : IsEngineCall (shared_of st v.failures) call = of.is in
-      let makes : MakesCall st v.failures o known.was.events c call = record { is = of; windows = made.2 now.setting.stored; snapshots = made.3; few = made.4; tells = made.5; lost = made.6; orders = made.7; owners = made.8 } in
+      let makes : MakesCall st v.failures o known.was.events c call = record { is = of; windows = made.2; snapshots = made.3; few = made.4; tells = made.5; lost = made.6; orders = made.7; owners = made.8 } in
       let logs : machine_logs st.machines c ≡ logs_of st.machines call.last.made = ap (λ (log : ℕ → List Entry). map log (range_with_len 0 st.machines)) (λ i. λ m. of.logs m i) in
       let merged : are.merged ≡ call.last.made = logs_merge st.machines call.last.made are.merged (updates_rise (last_beginning call).next call.last.made (last_begins (shared_of st v.failures) (opening call) call.failed call.last (opening_begins (shared_of st v.failures) call is) is.attempts).1.tickets) of.machines
       (subst (λ (ls : List (List Entry)). IsMerge (all_logged ls) are.merged) logs are.merges) in
@@ -89,13 +89,13 @@ module _ {M : Type 0} (represents : Setting → ℕ → Machine → M → Type 0
         snapshots = once;
         is = subst₂ (λ (ks : List Entry) (r : Bool). IsRunWithFailures (shared_of st v.failures) st.machines ks r call.last.struck lists) of.base of.was_resumed
             (run_is (shared_of st v.failures) call is lists order_is lost_is fired st.machines done made.8);
-        keeps = subst (λ (ks : List Entry). KeepsToWindow st.window ks (snapshots_of call) lists) of.base (window_is (shared_of st v.failures) call is lists order_is lost_is fired st v.failures refl (made.2 now.setting.stored));
+        keeps = subst (λ (ks : List Entry). KeepsToWindow st.window ks (snapshots_of call) lists) of.base (window_is (shared_of st v.failures) call is lists order_is lost_is fired st v.failures refl (made.2 known.fits.taken));
         few = sum_few (sum_by (λ count. count) lists.done) c.left o.first.left sum;
         finished = λ saves paused. let has : HasEndedCall st call = paused.1 st o known.was.events c now call makes in record {
           finished = λ u low. ap (λ (es : List Entry). tasks_after st.graph st.program es u) order_is ∙ has.tasks u low;
           answered = has.unharmed;
-          some = λ _. has.some;
-          saved = λ _. ap (λ (ks : List Entry). last_order ks (snapshots_of call)) (sym of.base) ∙ has.saved ∙ sym order_is;
+          some = λ _. has.some known.fits.taken;
+          saved = λ _. ap (λ (ks : List Entry). last_order ks (snapshots_of call)) (sym of.base) ∙ has.saved known.fits.taken ∙ sym order_is;
         };
         quiet = λ paused. let leaves : LeavesNothing st call = paused.1 st o known.was.events c now call makes in record {
           finished = λ u low. ap (λ (es : List Entry). tasks_after st.graph st.program es u) order_is ∙ leaves.tasks u low;
@@ -112,7 +112,7 @@ module _ {M : Type 0} (represents : Setting → ℕ → Machine → M → Type 0
                 inside = task.0;
                 task = left_task;
               },
-              never_full st v.failures o.kept o.resumed c call of (length start + length (snapshots_of call)) 0 [] [] [] spent.2
+              never_full st v.failures o.kept o.resumed c call of (length start + length (snapshots_of call)) 0 [] [] [] (spent.2 known.fits.taken)
                   (known.count ∙ ap (length {A = List ℕ}) known.was.keeps.stored ∙ length-append start added ∙ ap (λ (n : ℕ). length start + n) (sym (orders_many (stored_order start) added) ∙ ap (length {A = List Entry}) once))
                   lists.order order_is left.0 task.0 left_task,
             );

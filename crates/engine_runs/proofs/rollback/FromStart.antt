@@ -2,7 +2,7 @@
 use Rattle.std.proofs.Common.{◌≡◌, ℕ, ◌+◌, ◌*◌, ◌<◌, ◌≤◌, ◌^◌, ◌++◌, ◌∙◌, List, [], ap, arith, filter, inl, length, refl, subst, sym}
 use Rattle.call_laws.specs.attempts.Entries.{is_restart}
 use Rattle.cluster_laws.specs.cluster_model.Events.{failures_in}
-use Rattle.cluster_step.proofs.trace.Going.{setting_now}
+use Rattle.cluster_step.proofs.trace.Going.{stored_now}
 use Rattle.engine_runs.proofs.Bounds.{failures_few, restarts_few}
 use Rattle.engine_runs.proofs.rollback.Attempts.{base_so}
 use Rattle.engine_runs.proofs.rollback.Keepings.{machines_same}
@@ -34,9 +34,8 @@ module _ {P : Type 0} (meaning : P → Update) (v : TraceView (AnyMachine P)) (h
   pub near : v.now.coordinator.saving.store_end + 16 * failures < 2 ^ 32
   near =
       let is = known.was.now in
-      let setting = setting_now st o known.was.events is.setting in
       near_enough known.was.cluster.coordinator.store_end v.now.coordinator.saving.store_end (length stored) (length front) (length (filter is_restart o.kept)) (failures_in st known.was.cluster) failures (length v.failures) st.machines (length v.now.machines.items)
-      known.place (sym ((is.code.coordinator.saving setting.stored).store_end))
+      known.place (sym ((is.code.coordinator.saving (stored_now st o known.was.events known.fits.taken)).store_end))
       (subst (λ (es : List Entry). length es ≤ length (filter is_restart o.kept) + 1 + length v.failures) (sym (known.front_are ∙ ap (filter is_restart) (sym known.base)))
       (restarts_few st v.failures o.kept o.resumed o.base o.first known.was.events known.was.cluster is.trace))
       (ap (λ (es : List Entry). length (filter is_restart es)) known.kept) failures_low failures_are (failures_few st known.was.cluster) (is.code.many ∙ machines_same st o known.was.events) machines_low

@@ -1,5 +1,5 @@
 -- A store keeps up where machines fail, and where all go back.
-use Rattle.std.proofs.Common.{◌≡◌, ℕ, ◌+◌, ◌*◌, ◌<◌, ◌≤◌, ◌++◌, ◌∙◌, true, false, List, [], ◌∷◌, ap, arith, filter, if◌then◌else◌, length, refl, subst, sym}
+use Rattle.std.proofs.Common.{◌≡◌, Option, ℕ, ◌+◌, ◌*◌, ◌<◌, ◌≤◌, ◌++◌, ◌∙◌, true, false, List, [], ◌∷◌, ap, arith, filter, if◌then◌else◌, length, refl, subst, sym}
 use Rattle.gl_base.specs.declared.entries.Entry.{Entry}
 use Rattle.gl_base.specs.declared.jobs.FailureAt.{FailureAt}
 use Rattle.cluster_step.specs.trace.Traces.{HasGoneBack, first_setting}
@@ -97,7 +97,7 @@ module _ {M : Type 0} (represents : Setting → ℕ → Machine → M → Type 0
 
 -- where all go back
 module _ {P : Type 0} (meaning : P → Update) (old new : TraceView (AnyMachine P)) (failures : new.failures ≡ old.failures) (header : Header) (start bodies : List (List ℕ)) (lost later stored front ahead before order : List Entry) (st : Setting) (o : CallOpening)
-    (machines : List (AnyMachine P)) (engine : Engine) (store : StoreView) where
+    (machines : List (AnyMachine P)) (engine : Engine) (store : Option StoreView) where
   pub known_back : (known : IsKnownTrace (IsAnyMachineOf meaning) old header start bodies lost stored front before st o) → RestartsFrom meaning old machines engine store order lost later front ahead st o known.was.events known.was.cluster →
       HasGoneBack (IsAnyMachineOf meaning) old machines engine store new → IsKnownTrace (IsAnyMachineOf meaning) new header start bodies later stored ahead order st o
   known_back known goes gone_back =
@@ -128,7 +128,7 @@ module _ {P : Type 0} (meaning : P → Update) (old new : TraceView (AnyMachine 
       placed end failed stored size front ahead before is = omega (arith, before, is)
 
 -- where the lost updates were read
-pub lost_read : {P : Type 0} (meaning : P → Update) (v : TraceView (AnyMachine P)) (header : Header) (start bodies : List (List ℕ)) (read lost later stored front ahead before order : List Entry) (st : Setting) (o : CallOpening) (machines : List (AnyMachine P)) (engine : Engine) (store : StoreView) →
+pub lost_read : {P : Type 0} (meaning : P → Update) (v : TraceView (AnyMachine P)) (header : Header) (start bodies : List (List ℕ)) (read lost later stored front ahead before order : List Entry) (st : Setting) (o : CallOpening) (machines : List (AnyMachine P)) (engine : Engine) (store : Option StoreView) →
     read ≡ lost →
     ((known : IsKnownTrace (IsAnyMachineOf meaning) v header start bodies read stored front before st o) → HasFailures v st known.was.cluster → RestartsFrom meaning v machines engine store order read later front ahead st o known.was.events known.was.cluster) →
     (known : IsKnownTrace (IsAnyMachineOf meaning) v header start bodies lost stored front before st o) → HasFailures v st known.was.cluster → RestartsFrom meaning v machines engine store order lost later front ahead st o known.was.events known.was.cluster

@@ -1,7 +1,6 @@
 -- Why all didn't go back.
-use Rattle.std.proofs.Common.{◌≡◌, ℕ, ◌+◌, ◌*◌, ◌≤◌, ◌^◌, ◌∙◌, Bool, false, ap₂, subst, sym}
-use Rattle.cluster_step.proofs.trace.Going.{setting_now}
-use Rattle.cluster_step.specs.trace.Traces.{IsSnapSetting}
+use Rattle.std.proofs.Common.{◌≡◌, ℕ, ◌+◌, ◌*◌, ◌≤◌, ◌^◌, ◌∙◌, Bool, true, false, ap₂, subst, sym}
+use Rattle.cluster_step.proofs.trace.Going.{stored_now}
 use Rattle.cluster_laws.specs.cluster_model.Events.{failures_in}
 use Rattle.store.specs.snap_journal.Last.{LastErrorCause}
 use Rattle.store.specs.declared.snap_journal.faults.JournalFault.{JournalFault}
@@ -26,7 +25,7 @@ pub is_full : (told full : Type 0) (old new : Bool) (before now stored bytes : �
 is_full told full old new before now stored bytes why is no_place one other = subst (GoBackErrorCause told full old new before now) (sym is) (no_place, one, other)
 
 pub no_place : {M : Type 0} (represents : Setting → ℕ → Machine → M → Type 0) (v : TraceView M) (failures : ℕ) → InEachTrace represents v (λ st o events c. failures ≡ failures_in st c) → 2 ^ 32 ≤ v.now.coordinator.saving.store_end + 16 * failures →
-    InEachTrace represents v (λ st o events c. 2 ^ 32 ≤ c.coordinator.store_end + 16 * failures_in st c)
-no_place represents v failures are over st o events c is =
-    let setting : IsSnapSetting (newest_setting st o events) = setting_now st o events is.setting in
-    subst (λ (n : ℕ). 2 ^ 32 ≤ n) (ap₂ (λ (n k : ℕ). n + 16 * k) (sym (is.code.coordinator.saving setting.stored).store_end) (are st o events c is)) over
+    InEachTrace represents v (λ st o events c. st.stored ≡ true → 2 ^ 32 ≤ c.coordinator.store_end + 16 * failures_in st c)
+no_place represents v failures are over st o events c is taken =
+    let stored : (newest_setting st o events).stored ≡ true = stored_now st o events taken in
+    subst (λ (n : ℕ). 2 ^ 32 ≤ n) (ap₂ (λ (n k : ℕ). n + 16 * k) (sym (is.code.coordinator.saving stored).store_end) (are st o events c is)) over

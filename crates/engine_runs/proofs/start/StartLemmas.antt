@@ -103,11 +103,12 @@ some_setting g program places machines failures graph are =
     } in (
       st,
       record {
-        setting = record { is = record { graph = graph; owner = owner_low g places.run.machines places.of.items places.owner.items are.each are.atoms are.owners }; coloured = coloured_by g places.run.engine places.colours.items st refl are.colours; stored = refl };
+        setting = record { is = record { graph = graph; owner = owner_low g places.run.machines places.of.items places.owner.items are.each are.atoms are.owners }; coloured = coloured_by g places.run.engine places.colours.items st refl are.colours };
         engine = runs_by places.run.engine places.colours.items st refl;
         placed = record { graph = refl; machines = refl; owners = λ v inside. refl };
         program_is = refl;
         pipeline = refl;
+        stored = refl;
         window = refl;
       },
       refl,
@@ -181,7 +182,7 @@ module _ {P : Type 0} (meaning : P → Update) (g : DataGraph) (program : Update
       known_is = record {
         kept = order_is;
         was = stored_trace;
-        fits = record { machines = header_machines ∙ sym machines_are; n = of.n ∙ ap size (sym runs.placed.graph); m = of.m ∙ ap (λ (x : DataGraph). length x.edges) (sym runs.placed.graph) };
+        fits = record { taken = runs.stored; machines = header_machines ∙ sym machines_are; n = of.n ∙ ap size (sym runs.placed.graph); m = of.m ∙ ap (λ (x : DataGraph). length x.edges) (sym runs.placed.graph) };
         stored_are = op.stored ∙ ap (filter is_restart) order_is;
         base = front_order;
         front_are = op.front;

@@ -1,5 +1,5 @@
 -- The course of a call opens with the machines that were made for it.
-use Rattle.std.proofs.Common.{Bool, List, [], ap, length, refl, replicate, slice_index, subst, sym, ℕ, zero, suc, ◌+◌, ◌<◌, ◌^◌, ◌∙◌, ◌≡◌, Result, Ok, Err, IfOk}
+use Rattle.std.proofs.Common.{Bool, List, [], ap, length, refl, replicate, slice_index, subst, sym, ℕ, zero, suc, ◌+◌, ◌<◌, ◌^◌, ◌∙◌, ◌≡◌, Some}
 use Rattle.std.specs.declared.alloc.Global.{Global}
 use Rattle.std.specs.declared.vec.Vec.{Vec}
 use Rattle.cluster_step.specs.trace.Traces.{CallOpening, TraceView, IsTraceNow, OpensCall, StartsCall, StartsSaving, StoreView, first_cluster}
@@ -28,7 +28,7 @@ none_admitted (suc n) (suc a) = none_admitted n a
 module _ {P : Type 0} (meaning : P → Update) (g : DataGraph) (program : Update) (owner : ℕ → ℕ) (colours : List ℕ) (run : SavingRun) (base : Base) (serials : List ℕ) (store : Store) (of_store : IsStoreOf g base store) (members : List (AnyMachine P))
     (stand : (st : Setting) (view : BaseView) (before : Cluster) → IsSavingRunOf g program owner colours run st → IsBaseOf st base view → HaveAdmitted st serials before → AreAnyMachinesOf meaning st view before members) where
   -- they begin an attempt of the law
-  pub starts_some : (next left : ℕ) → IsAttemptFrom g program owner colours run base serials next left store.length → (st : Setting) × (view : BaseView) × (before : Cluster) × StartsSaving (IsAnyMachineOf meaning) members run.engine (store_view store) next left st view before
+  pub starts_some : (next left : ℕ) → IsAttemptFrom g program owner colours run base serials next left store.length → (st : Setting) × (view : BaseView) × (before : Cluster) × StartsSaving (IsAnyMachineOf meaning) members run.engine (Some (store_view store)) next left st view before
   starts_some next left is =
       let are : AreAnyMachinesOf meaning is.st is.view is.before members = stand is.st is.view is.before is.runs is.of_base is.admitted in (
         is.st,
@@ -39,10 +39,13 @@ module _ {P : Type 0} (meaning : P → Update) (g : DataGraph) (program : Update
           led = led_by run.engine colours is.st is.runs.engine;
           many = are.many;
           each = are.each;
-          vertices = ap size is.runs.placed.graph ∙ sym of_store.vertices;
-          edges = ap (λ (x : DataGraph). length x.edges) is.runs.placed.graph ∙ sym of_store.edges;
-          newest = is.of_base.number ∙ sym of_store.newest;
-          store_end = is.store_end_is;
+          begins = record {
+            stored = is.runs.stored;
+            vertices = ap size is.runs.placed.graph ∙ sym of_store.vertices;
+            edges = ap (λ (x : DataGraph). length x.edges) is.runs.placed.graph ∙ sym of_store.edges;
+            newest = is.of_base.number ∙ sym of_store.newest;
+            store_end = is.store_end_is;
+          };
           first = is.next_is;
           tickets = is.left_is;
         },
@@ -72,19 +75,15 @@ module _ {P : Type 0} (meaning : P → Update) (g : DataGraph) (program : Update
         λ i. record { vertices = vertices i; edges = edges i; newest = newest i; store_end = long i }
 
     -- they start the call
-    pub starts_call : StartsCall (IsAnyMachineOf meaning) members run.engine (store_view store) next left failures st (opening_from st resumed first budget)
+    pub starts_call : StartsCall (IsAnyMachineOf meaning) members run.engine (Some (store_view store)) next left failures st (opening_from st resumed first budget)
     starts_call =
-        subst (λ (s : StoreView). StartsCall (IsAnyMachineOf meaning) members run.engine s next left failures st (opening_from st resumed first budget)) store_is
-        (subst (λ (n : ℕ). StartsCall (IsAnyMachineOf meaning) members run.engine (store_from st first) n left failures st (opening_from st resumed first budget)) (sym can.next_is)
-        (subst (λ (n : ℕ). StartsCall (IsAnyMachineOf meaning) members run.engine (store_from st first) (ticket_above kept.items) n failures st (opening_from st resumed first budget)) (sym (all can.few))
-        (start_call meaning run.engine st failures resumed first budget members runs.setting (led_by run.engine colours st runs.engine) can.good can.ordered can.begins
+        subst (λ (s : StoreView). StartsCall (IsAnyMachineOf meaning) members run.engine (Some s) next left failures st (opening_from st resumed first budget)) store_is
+        (subst (λ (n : ℕ). StartsCall (IsAnyMachineOf meaning) members run.engine (Some (store_from st first)) n left failures st (opening_from st resumed first budget)) (sym can.next_is)
+        (subst (λ (n : ℕ). StartsCall (IsAnyMachineOf meaning) members run.engine (Some (store_from st first)) (ticket_above kept.items) n failures st (opening_from st resumed first budget)) (sym (all can.few))
+        (start_call meaning run.engine st failures resumed first budget members runs.setting runs.stored (led_by run.engine colours st runs.engine) can.good can.ordered can.begins
         (stand st (base_opened resumed first) (cluster_before st (ticket_above kept.items) budget base.length) runs view_of admitted))))
 
 -- what is opened
 pub opens_so : {P : Type 0} (meaning : P → Update) (v : TraceView (AnyMachine P)) (st : Setting) (failures : List FailureAt) (resumed : Bool) (base : Base) (budget : ℕ) → OpensCall (IsAnyMachineOf meaning) v.start v.failures st (opening_from st resumed base budget) →
     ((o : CallOpening) → OpensCall (IsAnyMachineOf meaning) v.start v.failures st o → IsTraceNow (IsAnyMachineOf meaning) v st o [] (first_cluster st o)) → OpensWith meaning v st resumed base budget
 opens_so meaning v st failures resumed base budget opens begun = record { opens = opens; now = begun (opening_from st resumed base budget) opens }
-
-pub two_ok : {X E : Type 0} (r : Result X E) (P Q R : X → Type 0) → ((x : X) → P x → Q x → R x) → IfOk r P → IfOk r Q → IfOk r R
-two_ok (Ok x) P Q R then p q = then x p q
-two_ok (Err e) P Q R then p q = tt

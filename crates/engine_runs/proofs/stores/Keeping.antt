@@ -17,7 +17,7 @@ use Rattle.cluster_step.specs.clusters.Clusters.{IsSavingClusterOf}
 use Rattle.cluster_step.specs.declared.clusters.events.Event.TheVariants as event
 use Rattle.cluster_step.specs.declared.clusters.events.Lead.TheVariants as lead
 use Rattle.cluster_step.specs.declared.clusters.parts.Parts.{Parts}
-use Rattle.std.specs.Prelude.{slice_index_or}
+use Rattle.std.specs.Prelude.{Option, slice_index_or}
 use Rattle.engine_runs.specs.stores.Stores.{CallOpening, Cluster, TraceGoesOn, TraceView, Header, IsTraceNow, IsGoodStore, IsKnownTrace, IsRecordBehind, IsRememberedAt, IsStoredTrace, KeepsUp, Machine, Setting, as_since, first_cluster, first_setting, fronts_in, recorded_in, stored_order}
 use Rattle.cluster_step.specs.trace.Traces.{Engine, GoesBackWith, HasGoneBack, StoreView, newest_setting}
 use Rattle.call_laws.specs.whole_calls.Lost.{TakesAway}
@@ -101,7 +101,7 @@ module _ {M : Type 0} (represents : Setting → ℕ → Machine → M → Type 0
             taken = record_lost st o before.events c before.now.trace.trace lost before.taken;
           }
 
-    module _ (gone : List Entry) (machines : List M) (engine : Engine) (store : StoreView) (base : BaseView) (gone_back : HasGoneBack represents old machines engine store new) (before : IsStoredTrace represents old header start bodies lost st o)
+    module _ (gone : List Entry) (machines : List M) (engine : Engine) (store : Option StoreView) (base : BaseView) (gone_back : HasGoneBack represents old machines engine store new) (before : IsStoredTrace represents old header start bodies lost st o)
         (goes : GoesBackWith represents old machines engine store st o before.events before.cluster base) (takes : TakesAway (newest_setting st o before.events) before.cluster base gone) where
       unfoldable pub returns : IsStoredTrace represents new header start bodies (lost ++ gone) st o
       returns =

@@ -6,7 +6,7 @@ pub use Rattle.placed_machines.specs.Beginning.{ArePlacesOf, IsBaseFor, IsAnyMac
 pub use Rattle.placed_machines.specs.declared.any_machine.machines.AnyMachine.{AnyMachine}
 pub use Rattle.engine_runs.specs.stores.Stores.{Header, IsKnownTrace, stored_order}
 pub use Rattle.call_laws.specs.whole_calls.Lost.{TakesAway}
-use Rattle.std.specs.Prelude.{Bool, List, false, filter, length, true, ℕ, ◌+◌, ◌++◌, ◌<◌, ◌≡◌}
+use Rattle.std.specs.Prelude.{Bool, List, Option, false, filter, length, true, ℕ, ◌+◌, ◌++◌, ◌<◌, ◌≡◌}
 use Rattle.gl_base.specs.declared.entries.Entry.{Entry}
 use Rattle.gl_base.specs.declared.snapshots.Base.{Base}
 use Rattle.graph_core.specs.DataGraph.{size}
@@ -35,9 +35,9 @@ pub record IsBaseBehind (shared : Shared) (header : Header) (bodies : List (List
   pub vertices : AreNumbers (size shared.graph) (replay shared.graph shared.program (stored_order bodies)).vertex base.values.items
   pub edges : AreNumbers (length shared.graph.edges) (replay shared.graph shared.program (stored_order bodies)).edge base.edges.items
 
--- With these machines, this engine and this store the course may go back to this order. That takes away what is behind the lost updates before, and the next
+-- With these machines, this engine, and this store or without one, the course may go back to this order. That takes away what is behind the lost updates before, and the next
 -- attempt begins with these restarts, one more than before for each failure.
-pub record RestartsFrom {P : Type 0} (meaning : P → Update) (v : TraceView (AnyMachine P)) (machines : List (AnyMachine P)) (engine : Engine) (store : StoreView) (order lost later before front : List Entry) (st : Setting) (o : CallOpening) (events : List law.Event) (c : Cluster) : Type 0 where
+pub record RestartsFrom {P : Type 0} (meaning : P → Update) (v : TraceView (AnyMachine P)) (machines : List (AnyMachine P)) (engine : Engine) (store : Option StoreView) (order lost later before front : List Entry) (st : Setting) (o : CallOpening) (events : List law.Event) (c : Cluster) : Type 0 where
   pub to : BaseView
   pub back : GoesBackWith (IsAnyMachineOf meaning) v machines engine store st o events c to
   pub number : to.number ≡ c.coordinator.acknowledged

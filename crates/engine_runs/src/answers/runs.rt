@@ -50,6 +50,17 @@ pub struct RunInput<'a> {
     pub plan: StoredPlan,
 }
 
+/// What a run without a store is made from: the graph, how it is cut, the failures of machines, how
+/// the graph is placed and the program run on it, and how updates are kept apart.
+#[derive(Clone, Copy)]
+pub struct UnstoredInput<'a> {
+    pub graph: &'a Graph,
+    pub cut: &'a Cut,
+    pub failures: &'a [FailureAt],
+    pub plan: RunPlan,
+    pub engine: EngineKind,
+}
+
 /// A run with a store: the order to which it led, the updates that failures took away, how many
 /// updates each machine made, which of the failures fired by their places, the snapshots that were
 /// acknowledged, the numbers of the vertices, and how it ended.

@@ -1,5 +1,5 @@
 //! Laws of machines in the course of a call. Each is the contract of a function that does nothing.
-ghost use Rattle.std.specs.Prelude.{◌≡◌, ◌⊎◌, ◌<◌, ℕ, Bool, true, false, List, [], length};
+ghost use Rattle.std.specs.Prelude.{◌≡◌, ◌⊎◌, ◌<◌, ℕ, Bool, Some, true, false, List, [], length};
 ghost use Rattle.gl_base.specs.declared.jobs.FailureAt.{FailureAt};
 ghost use Rattle.gl_base.specs.declared.snapshots.Base.{Base};
 ghost use Rattle.cluster_laws.specs.cluster_model.Events.{Event, GoesBackTo, recovers};
@@ -16,12 +16,13 @@ use update_api::Program;
 pub fn machines_start_calls<P: Program>()
     ensures { (engine : Engine) (st : Setting) (failures : List FailureAt) (resumed : Bool)
         (base : Base) (left : ℕ) (members : List (AnyMachine P)) →
-        IsSnapSetting st → IsEngineOf engine st.engine → IsGoodBase (shared_of st failures) base →
+        IsSnapSetting st → st.stored ≡ true → IsEngineOf engine st.engine →
+        IsGoodBase (shared_of st failures) base →
         AreJobFailures st.machines failures → (resumed ≡ true) ⊎
         ((resumed ≡ false) × (base.order.items ≡ [])) →
         AreAnyMachinesOf P.meaning st (base_opened resumed base)
         (cluster_before st (ticket_above base.order.items) left base.length) members →
-        StartsCall (IsAnyMachineOf P.meaning) members engine (store_from st base)
+        StartsCall (IsAnyMachineOf P.meaning) members engine (Some (store_from st base))
         (ticket_above base.order.items) left failures st (opening_from st resumed base left) }
 {}
 
@@ -32,7 +33,8 @@ pub fn machines_go_back<P: Program>()
     ensures back { (engine : Engine) (old : TraceView (AnyMachine P)) (st : Setting)
         (o : CallOpening) (events : List Event) (c : Cluster) (base : BaseView) (store : StoreView)
         (members : List (AnyMachine P)) →
-        IsTraceNow (IsAnyMachineOf P.meaning) old st o events c → IsEngineOf engine st.engine →
+        IsTraceNow (IsAnyMachineOf P.meaning) old st o events c → st.stored ≡ true →
+        IsEngineOf engine st.engine →
         GoesBackTo (newest_setting st o events) c base → c.stopped ≡ false →
         ((a : ℕ) → a < st.machines → has_reached old.failures c a ≡ true →
         (c.machine a).failed ≡ true) →
@@ -40,7 +42,7 @@ pub fn machines_go_back<P: Program>()
         size st.graph ≡ store.vertices → length st.graph.edges ≡ store.edges →
         base.number ≡ store.newest →
         (recovers (newest_setting st o events) base c).coordinator.store_end ≡ store.store_end →
-        GoesBackWith (IsAnyMachineOf P.meaning) old members engine store st o events c base }
+        GoesBackWith (IsAnyMachineOf P.meaning) old members engine (Some store) st o events c base }
     ensures runs { (g : DataGraph) (program : Update) (owner : ℕ →
         ℕ) (colours : List ℕ) (run : SavingRun) (st : Setting)
         (o : CallOpening) (events : List Event) →

@@ -1,5 +1,5 @@
 //! All machines of a call go back.
-ghost use Rattle.std.specs.Prelude.{◌≡◌, ◌≤◌, ◌+◌, ◌*◌, ◌^◌, ℕ, List, false, length, IfErr, IfOk, IsTrue, OnErr, OnOk};
+ghost use Rattle.std.specs.Prelude.{◌≡◌, ◌≤◌, ◌+◌, ◌*◌, ◌^◌, ℕ, List, true, false, length, IfErr, IfOk, IsTrue, OnErr, OnOk};
 ghost use Rattle.engine_runs.specs.rollback.Failing.{HaveFailedSince};
 ghost use Rattle.engine_runs.specs.rollback.Returning.{ArePlacesOf, Begins, CallOpening, HasReachedSome, InEachTrace, IsAnyMachineOf, IsKnownTrace, IsRunAt, IsSameAttempt, GoBackErrorCause, Setting};
 ghost use Rattle.cluster_laws.specs.cluster_model.Events.{failures_in};
@@ -67,7 +67,7 @@ pub fn go_back<D: Disk, P: Program>(
     ensures refused { IfErr result
         (GoBackErrorCause (IsTrue D.observable)
         (InEachTrace (IsAnyMachineOf P.meaning) trace.new (λ st o events c.
-        2 ^ 32 ≤ c.coordinator.store_end + 16 * failures_in st c))
+        st.stored ≡ true → 2 ^ 32 ≤ c.coordinator.store_end + 16 * failures_in st c))
         journal.old.failed journal.new.failed (D.faults journal.old.disk)
         (D.faults journal.new.disk)) }
     ensures attempt { OnErr result (IsSameAttempt trace.old trace.new) }
@@ -92,7 +92,7 @@ pub fn go_back<D: Disk, P: Program>(
         alloc,
         next.machines,
         placed.places.run.engine,
-        next.store,
+        Some(next.store),
     ) {
         drop(next.order);
         drop(next.front);

@@ -1,5 +1,5 @@
 //! The next attempt.
-ghost use Rattle.std.specs.Prelude.{◌≡◌, ◌≤◌, ◌<◌, ◌+◌, ◌*◌, ◌^◌, ◌++◌, ℕ, List, filter, length, true, false, IfErr, IfOk, IsTrue};
+ghost use Rattle.std.specs.Prelude.{◌≡◌, ◌≤◌, ◌<◌, ◌+◌, ◌*◌, ◌^◌, ◌++◌, ℕ, List, Some, filter, length, true, false, IfErr, IfOk, IsTrue};
 ghost use Rattle.std.specs.List.{AllByRecursion};
 ghost use Rattle.engine_runs.specs.rollback.Returning.{ArePlacesOf, BaseView, Begins, CallOpening, Cluster, RestartsFrom, HasFailures, Header, InEachTrace, IsBaseBehind, IsBaseFor, IsTraceNow, IsAnyMachineOf, IsKnownTrace, IsRunAt, GoBackErrorCause, Setting, StartsSaving, StoreView, is_restart, newest_setting, restarts};
 ghost use Rattle.cluster_laws.specs.cluster_model.Events.{Event, GoesBackTo, failures_in};
@@ -65,7 +65,7 @@ pub(crate) fn next_attempt<D: Disk, P: Program>(
     requires first { Begins restarts.now.stored.items restarts.now.front.items }
     ensures start { IfOk result (λ next. (st : Setting) × (base : BaseView) × (before : Cluster) ×
         StartsSaving (IsAnyMachineOf P.meaning) next.machines.items placed.now.places.now.run.engine
-        (store_view next.store) trace.now.now.next trace.now.now.left st base before) }
+        (Some (store_view next.store)) trace.now.now.next trace.now.now.left st base before) }
     ensures many { IfOk result (λ next.
         length next.machines.items ≡ length trace.now.now.machines.items) }
     ensures newest { IfOk result (λ next. next.store.newest + 1 < 2 ^ 32) }
@@ -80,12 +80,12 @@ pub(crate) fn next_attempt<D: Disk, P: Program>(
         restarts.now.front.items order st o) → HasFailures trace.now st known.was.cluster →
         IfOk result (λ next.
         RestartsFrom P.meaning trace.now next.machines.items placed.now.places.now.run.engine
-        (store_view next.store) next.order.items lost.now next.lost.items restarts.now.front.items
+        (Some (store_view next.store)) next.order.items lost.now next.lost.items restarts.now.front.items
         next.front.items st o known.was.events known.was.cluster) }
     ensures refused { IfErr result
         (GoBackErrorCause (IsTrue D.observable)
         (InEachTrace (IsAnyMachineOf P.meaning) trace.now (λ st o events c.
-        2 ^ 32 ≤ c.coordinator.store_end + 16 * failures_in st c))
+        st.stored ≡ true → 2 ^ 32 ≤ c.coordinator.store_end + 16 * failures_in st c))
         journal.old.failed journal.new.failed (D.faults journal.old.disk)
         (D.faults journal.new.disk)) }
     ensures well { IfOk result (λ next. (journal.old.failed ≡ false) ×
@@ -200,9 +200,8 @@ pub(crate) fn attempt_from<P: Program>(
         store.vertices ≡ size placed.now.graph.now →
         store.edges ≡ length placed.now.graph.now.edges → store.newest ≡ back.base.number →
         (st : Setting) × (to : BaseView) × (before : Cluster) ×
-        StartsSaving (IsAnyMachineOf P.meaning) next.machines.items
-        placed.now.places.now.run.engine store
-        trace.now.now.next trace.now.now.left st to before) }
+        StartsSaving (IsAnyMachineOf P.meaning) next.machines.items placed.now.places.now.run.engine
+        (Some store) trace.now.now.next trace.now.now.left st to before) }
 {
     let ReturnPoint {
         base,
@@ -284,8 +283,8 @@ fn machines_from<P: Program>(
     ensures start { IfOk result (λ machines. (store : StoreView) → store.vertices ≡ size graph.now →
         store.edges ≡ length graph.now.edges → store.newest ≡ base.now.number →
         (st : Setting) × (to : BaseView) × (before : Cluster) ×
-        StartsSaving (IsAnyMachineOf P.meaning) machines.items places.now.run.engine store
-        trace.now.now.next trace.now.now.left st to before) }
+        StartsSaving (IsAnyMachineOf P.meaning) machines.items places.now.run.engine
+        (Some store) trace.now.now.next trace.now.now.left st to before) }
 {
     let serials = serials(alloc, trace)?;
     let machines = machines_of_attempt(alloc, graph, program, base, places, &serials)?;

@@ -1,5 +1,5 @@
 //! All machines of a call without a store go back to the start.
-ghost use Rattle.std.specs.Prelude.{◌≡◌, ◌≤◌, ◌<◌, ◌+◌, ◌*◌, ◌^◌, ℕ, List, [], false, length, IfOk, OnOk};
+ghost use Rattle.std.specs.Prelude.{◌≡◌, ◌≤◌, ◌<◌, ◌+◌, ◌*◌, ◌^◌, ℕ, List, [], Some, false, length, IfOk, OnOk};
 ghost use Rattle.cluster_laws.specs.cluster_model.Clusters.{BaseView, Cluster};
 ghost use Rattle.coordinator.specs.coord_core.Stores.{store_view};
 ghost use Rattle.engine_runs.specs.rollback.Returning.{ArePlacesOf, CallOpening, RestartsFrom, HasFailures, HasReachedSome, Header, IsBaseBehind, IsBaseFor, IsAnyMachineOf, IsKnownTrace, IsRunAt, Setting, StartsSaving};
@@ -16,7 +16,6 @@ use crate::rollback::reading::failures_now;
 use cluster_step::trace::{SavingMachine, Store, Trace};
 use gl_base::{Base, Entry, NoMemory};
 use graph_core::Graph;
-use placed_machines::Places;
 use placed_machines::any_machine::AnyMachine;
 use recovery::restarts::{Restarts, base_behind, missing_restarts};
 use recovery::start_base;
@@ -36,13 +35,12 @@ const MOST_BYTES: u64 = 4294967295;
 pub(crate) fn go_back_to_start<P: Program>(
     alloc: Global,
     trace: &mut Trace<AnyMachine<P>>,
-    graph: &Graph,
-    program: P,
-    places: &Places,
+    placed: &PlacedProgram<'_, P>,
     restarts: &mut Restarts,
     lost: &mut Vec<Entry>,
 ) -> Result<Vec<Entry>, NoMemory>
-    requires places { ArePlacesOf graph.now (length trace.old.now.machines.items) places.now }
+    requires places { ArePlacesOf placed.now.graph.now
+        (length trace.old.now.machines.items) placed.now.places.now }
     requires machines { length trace.old.now.machines.items < 65535 }
     requires failures { length trace.old.failures ≤ 65536 }
     requires stored { restarts.old.stored.items ≡ [] }
@@ -50,7 +48,8 @@ pub(crate) fn go_back_to_start<P: Program>(
     // on.
     ensures back { trace.old.now.stopped ≡ false →
         (header : Header) (order : List Entry) (st : Setting) (o : CallOpening) →
-        IsHeaderOf graph.now header → IsRunAt graph.now (P.meaning program) places.now st →
+        IsHeaderOf placed.now.graph.now header →
+        IsRunAt placed.now.graph.now (P.meaning placed.now.program) placed.now.places.now st →
         (known : IsKnownTrace (IsAnyMachineOf P.meaning) trace.old header [] [] lost.old.items
         restarts.old.stored.items restarts.old.front.items order st o) →
         HasReachedSome trace.old st known.was.cluster →
@@ -65,8 +64,13 @@ pub(crate) fn go_back_to_start<P: Program>(
     ensures stored { restarts.new.stored ≡ restarts.old.stored }
 {
     fail_reached(trace)?;
-    let next = attempt_at_start(alloc, trace, graph, program, places, restarts, lost)?;
-    if let Err(NoMemory) = trace.recover(alloc, next.machines, places.run.engine, next.store) {
+    let next = attempt_at_start(alloc, trace, placed, restarts, lost)?;
+    if let Err(NoMemory) = trace.recover(
+        alloc,
+        next.machines,
+        placed.places.run.engine,
+        Some(next.store),
+    ) {
         drop(next.order);
         drop(next.front);
         drop(next.lost);
@@ -81,32 +85,32 @@ pub(crate) fn go_back_to_start<P: Program>(
 fn attempt_at_start<P: Program>(
     alloc: Global,
     trace: &Trace<AnyMachine<P>>,
-    graph: &Graph,
-    program: P,
-    places: &Places,
+    placed: &PlacedProgram<'_, P>,
     restarts: &Restarts,
     lost: &[Entry],
 ) -> Result<NextAttempt<P>, NoMemory>
-    requires places { ArePlacesOf graph.now (length trace.now.now.machines.items) places.now }
+    requires places { ArePlacesOf placed.now.graph.now
+        (length trace.now.now.machines.items) placed.now.places.now }
     requires machines { length trace.now.now.machines.items < 65535 }
     requires failures { length trace.now.failures ≤ 65536 }
     requires stored { restarts.now.stored.items ≡ [] }
     ensures start { IfOk result (λ next. (st : Setting) × (base : BaseView) × (before : Cluster) ×
-        StartsSaving (IsAnyMachineOf P.meaning) next.machines.items places.now.run.engine
-        (store_view next.store) trace.now.now.next trace.now.now.left st base before) }
+        StartsSaving (IsAnyMachineOf P.meaning) next.machines.items placed.now.places.now.run.engine
+        (Some (store_view next.store)) trace.now.now.next trace.now.now.left st base before) }
     ensures many { IfOk result (λ next.
         length next.machines.items ≡ length trace.now.now.machines.items) }
     ensures newest { IfOk result (λ next. next.store.newest + 1 < 2 ^ 32) }
     ensures short { IfOk result (λ next. next.store.length < 2 ^ 32) }
     ensures alone { IfOk result (λ next. AreRestartsAlone next.order.items) }
     ensures back { (header : Header) (order : List Entry) (st : Setting) (o : CallOpening) →
-        IsHeaderOf graph.now header → IsRunAt graph.now (P.meaning program) places.now st →
+        IsHeaderOf placed.now.graph.now header →
+        IsRunAt placed.now.graph.now (P.meaning placed.now.program) placed.now.places.now st →
         (known : IsKnownTrace (IsAnyMachineOf P.meaning) trace.now header [] [] lost.now
         restarts.now.stored.items restarts.now.front.items order st o) →
         HasFailures trace.now st known.was.cluster →
         IfOk result (λ next.
-        RestartsFrom P.meaning trace.now next.machines.items places.now.run.engine
-        (store_view next.store) next.order.items lost.now next.lost.items restarts.now.front.items
+        RestartsFrom P.meaning trace.now next.machines.items placed.now.places.now.run.engine
+        (Some (store_view next.store)) next.order.items lost.now next.lost.items restarts.now.front.items
         next.front.items st o known.was.events known.was.cluster) }
 {
     let failures = failures_now(alloc, trace)?;
@@ -117,22 +121,17 @@ fn attempt_at_start<P: Program>(
         failures,
         trace.next(),
     )?;
-    let Ok(base) = start_with(alloc, graph, &program, &missing) else {
+    let Ok(base) = start_with(alloc, placed.graph, &placed.program, &missing) else {
         drop(missing);
         return Err(NoMemory);
     };
-    let store = no_store(trace, graph, failures);
-    let placed = PlacedProgram {
-        graph,
-        program,
-        places,
-    };
+    let store = no_store(trace, placed.graph, failures);
     let back = ReturnPoint {
         base,
         missing,
         store,
     };
-    let Ok(next) = attempt_from(alloc, trace, &placed, restarts, lost, back) else {
+    let Ok(next) = attempt_from(alloc, trace, placed, restarts, lost, back) else {
         return Err(NoMemory);
     };
     Ok(next)

@@ -10,6 +10,7 @@ ghost use Rattle.graph_core.specs.DataGraph.{IsDataGraph};
 use crate::placed::PlacedProgram;
 use crate::start::openings::Opening;
 use crate::start::tickets::tickets_from;
+use cluster_step::clusters::SnapCluster;
 use cluster_step::trace::{Store, Trace};
 use gl_base::{Base, FailureAt, NoMemory};
 use graph_core::Graph;
@@ -55,15 +56,16 @@ pub(crate) fn trace_of<P: Program>(
     )?;
     let store = store_of(placed.graph, &opening.base);
     let left = tickets_from(opening.next, budget);
-    Trace::open(
+    let cluster = SnapCluster::new(
         alloc,
         machines,
         placed.places.run.engine,
-        store,
+        Some(store),
         opening.next,
         left,
-        listed,
-    )
+    )?;
+    let trace = Trace::open(alloc, cluster, listed)?;
+    Ok(trace)
 }
 
 /// What the coordinator knows of the store of this base.

@@ -1,6 +1,6 @@
 //! Laws of a store beside the course of a call. Each is the contract of a function that does
 //! nothing.
-ghost use Rattle.std.specs.Prelude.{List, [], length, ℕ, ◌++◌, ◌∷◌, ◌≡◌};
+ghost use Rattle.std.specs.Prelude.{List, Option, [], length, ℕ, ◌++◌, ◌∷◌, ◌≡◌};
 ghost use Rattle.gl_base.specs.declared.entries.Entry.{Entry};
 ghost use Rattle.gl_base.specs.declared.snapshots.Record.{Record};
 ghost use Rattle.cluster_step.specs.trace.Traces.{BaseView, Engine, GoesBackWith, HasGoneBack, StoreView, newest_setting};
@@ -40,7 +40,7 @@ pub fn stores_go_with_traces<M: SavingMachine>()
         RecordFits made → NumbersFit made → length made.sections.items ≡ header.machines →
         IsStoredTrace M.represents new header start (bodies ++ body_bytes made ∷ []) lost st o }
     ensures returns { (old new : TraceView M) (header : Header) (start bodies : List (List ℕ))
-        (lost gone : List Entry) (machines : List M) (engine : Engine) (store : StoreView)
+        (lost gone : List Entry) (machines : List M) (engine : Engine) (store : Option StoreView)
         (st : Setting) (o : CallOpening) (base : BaseView) →
         new.failures ≡ old.failures → HasGoneBack M.represents old machines engine store new →
         (was : IsStoredTrace M.represents old header start bodies lost st o) →

@@ -9,16 +9,14 @@ ghost use Rattle.graph_core.specs.DataGraph.{IsDataGraph, size};
 ghost use Rattle.store.specs.declared.snap_journal.faults.JournalFault.TheVariants as fault;
 ghost use Rattle.update_api.specs.Updates.{Update};
 
-use crate::answers::{StoredEnd, StoredPlan, StoredRun};
+use crate::answers::{StoredEnd, StoredPlan, StoredRun, UnstoredInput};
 use crate::calls::StoredCall;
-use crate::placement_is_unique::placements_are_one;
 use crate::running::{call_of, gathered};
 use crate::start::start_unstored;
 use crate::unstored::steps::play_unstored;
-use gl_base::{EngineKind, FailureAt, NoMemory};
+use gl_base::{FailureAt, NoMemory};
 use graph_atoms::atom_gather::Cut;
 use graph_core::Graph;
-use placement::plans::RunPlan;
 use std::alloc::Global;
 use std::sync::Wait;
 use store::snap_journal::JournalFault;
@@ -34,56 +32,52 @@ const WIDEST_WINDOW: u32 = 33_554_432;
 pub fn run_unstored<R: Wait, P: Program>(
     rt: &R,
     alloc: Global,
-    graph: &Graph,
+    input: &UnstoredInput<'_>,
     program: P,
-    cut: &Cut,
-    plan: RunPlan,
-    engine: EngineKind,
-    failures: &[FailureAt],
 ) -> Result<StoredRun, NoMemory>
-    requires cut { CanBeCut graph.now cut.now }
-    requires plan { IsInRange plan }
-    requires few { plan.machines < 65535 }
-    requires failures { AreJobFailures plan.machines failures.now }
-    requires places { length failures.now ≤ 65536 }
+    requires cut { CanBeCut input.now.graph.now input.now.cut.now }
+    requires plan { IsInRange input.now.plan }
+    requires few { input.now.plan.machines < 65535 }
+    requires failures { AreJobFailures input.now.plan.machines input.now.failures.now }
+    requires places { length input.now.failures.now ≤ 65536 }
 
     // What the run is, by the owners that the placement gives.
     ensures run { IfOk result (λ run. (owner : ℕ → ℕ) →
-        IsPlacement graph.now cut.now plan.machines owner →
-        IsUnstoredRun (owned_shared graph.now (P.meaning program) owner failures.now)
-        plan.machines plan.budget run) }
+        IsPlacement input.now.graph.now input.now.cut.now input.now.plan.machines owner →
+        IsUnstoredRun
+        (owned_shared input.now.graph.now (P.meaning program) owner input.now.failures.now)
+        input.now.plan.machines input.now.plan.budget run) }
 
     // It is a run of machines of this engine, with the plan's pipeline.
     ensures engine { IfOk result (λ run. (window : ℕ) ×
-        IsRunBy graph.now cut.now (P.meaning program) (record {
-          run = plan;
+        IsRunBy input.now.graph.now input.now.cut.now (P.meaning program) (record {
+          run = input.now.plan;
           window = window;
-          engine = engine;
+          engine = input.now.engine;
           saves_end = false;
-        }) failures.now (lists_of run)) }
+        }) input.now.failures.now (lists_of run)) }
 
     // Its budget is not spent, where each attempt has as many tickets as it may need.
     ensures enough { IfOk result (λ run. (bound : ℕ) →
-        BoundsSteps graph.now (P.meaning program) bound →
-        (1 + length failures.now) * bound ≤ plan.budget → (left : Vertex) →
+        BoundsSteps input.now.graph.now (P.meaning program) bound →
+        (1 + length input.now.failures.now) * bound ≤ input.now.plan.budget → (left : Vertex) →
         run.end ≡ ending.Spent left → ⊥) }
 
     // The graph is placed for it, in the one way that there is.
     ensures placed { IfOk result (λ run. (owner : ℕ → ℕ) ×
-        IsPlacement graph.now cut.now plan.machines owner) }
-    ensures numbers { IfOk result (λ run. length run.numbers.items ≡ size graph.now) }
-    ensures entries { IfOk result (λ run. All (IsEntryOf graph.now) run.order.items) }
+        IsPlacement input.now.graph.now input.now.cut.now input.now.plan.machines owner) }
+    ensures numbers { IfOk result (λ run. length run.numbers.items ≡ size input.now.graph.now) }
+    ensures entries { IfOk result (λ run. All (IsEntryOf input.now.graph.now) run.order.items) }
 {
-    placements_are_one();
-    let all = StoredPlan {
-        run: plan,
+    let plan = StoredPlan {
+        run: input.plan,
         window: WIDEST_WINDOW,
-        engine,
+        engine: input.engine,
         saves_end: false,
     };
-    let mut call = begin(alloc, graph, program, cut, all, failures)?;
-    match play_unstored(rt, alloc, graph, program, &mut call) {
-        Ok(end) => match gathered(alloc, graph, failures, call, end, 0) {
+    let mut call = begin(alloc, input.graph, program, input.cut, plan, input.failures)?;
+    match play_unstored(rt, alloc, input.graph, program, &mut call) {
+        Ok(end) => match gathered(alloc, input.graph, input.failures, call, end, 0) {
             Ok(run) => Ok(run),
             Err(why) => Err(only_memory(why)),
         },

@@ -6,6 +6,7 @@ ghost use Rattle.gl_base.specs.declared.numbers.MachineNo.{MachineNo};
 use crate::answers::StoredEnd;
 use crate::calls::StoredCall;
 use crate::finish::task_left;
+use crate::placed::PlacedProgram;
 use crate::rollback::go_back_to_start;
 use cluster_step::drive::{UnsavedPause, drive_unsaved};
 use gl_base::NoMemory;
@@ -70,10 +71,7 @@ fn go_on<R: Wait, P: Program>(rt: &R, call: &mut StoredCall<P>) -> Result<Unsave
     ensures attempt { IsSameCall call.old call.new }
 {
     call.trace.remember();
-    let pause = drive_unsaved(rt, &mut call.trace);
-    // The reader tells that no snapshot was acknowledged since, and that no attempt began.
-    let _machines = call.trace.machines();
-    pause
+    drive_unsaved(rt, &mut call.trace)
 }
 
 /// All machines go back to the start, where one has reached the count of a failure.
@@ -89,12 +87,15 @@ fn go_back_from<P: Program>(
     ensures { OnOk result
         (GoesOnUnstored P.meaning graph.now (P.meaning program) call.old call.new) }
 {
+    let placed = PlacedProgram {
+        graph,
+        program,
+        places: &call.places,
+    };
     let order = go_back_to_start(
         alloc,
         &mut call.trace,
-        graph,
-        program,
-        &call.places,
+        &placed,
         &mut call.restarts,
         &mut call.lost,
     )?;

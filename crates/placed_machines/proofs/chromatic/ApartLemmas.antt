@@ -31,7 +31,7 @@ abbrev pub machine_apart : Machine → Machine
 machine_apart m = record m { part = part_apart m.part; held = None }
 
 pub snap_setting_apart : (st : Setting) → IsSnapSetting st → IsSnapSetting (with_locking st)
-snap_setting_apart st snap = record { is = record { graph = snap.is.graph; owner = snap.is.owner }; coloured = tt; stored = snap.stored }
+snap_setting_apart st snap = record { is = record { graph = snap.is.graph; owner = snap.is.owner }; coloured = tt }
 
 saved_there : (st : Setting) (a : ℕ) (part : Part) → IsSavedRight st a part → IsSavedRight (with_locking st) a (part_apart part)
 saved_there st a part right =

@@ -1,5 +1,5 @@
 -- The next attempt goes on from what the store has.
-use Rattle.std.proofs.Common.{◌≡◌, ◌++◌, ◌∙◌, List, ap, filter, subst, sym}
+use Rattle.std.proofs.Common.{◌≡◌, ◌++◌, ◌∙◌, List, Some, ap, filter, subst, sym}
 use Rattle.gl_base.specs.declared.entries.Entry.{Entry}
 use Rattle.cluster_laws.specs.cluster_runs.Recorded.{shared_of}
 use Rattle.coordinator.specs.coord_core.Stores.{store_view}
@@ -41,7 +41,7 @@ returns-clause-back g c = λ told start order st o runs known has.
     subst (λ (es : List Entry). IsBaseBehind shared header bodies es c.in-Ok.base) c.deref-3.ensures.value (c.in-Ok.ensures.base told shared runs.placed.graph runs.program_is known.was.keeps.good) in
     let next = c.in-Ok-attempt_from.next in
     let lost = c.in-Ok-attempt_from.ensures.lost in
-    subst (λ (es : List Entry). RestartsFrom meaning c.args.trace.now next.machines.items c.args.placed.now.places.now.run.engine (store_view next.store) es c.args.lost.now next.lost.items c.args.restarts.now.front.items next.front.items st o known.was.events known.was.cluster) (sym c.in-Ok-attempt_from.ensures.order)
+    subst (λ (es : List Entry). RestartsFrom meaning c.args.trace.now next.machines.items c.args.placed.now.places.now.run.engine (Some (store_view next.store)) es c.args.lost.now next.lost.items c.args.restarts.now.front.items next.front.items st o known.was.events known.was.cluster) (sym c.in-Ok-attempt_from.ensures.order)
     (goes_so meaning c.args.placed.now.graph.now (meaning c.args.placed.now.program) c.args.placed.now.places.now c.args.trace.now header start bodies c.args.lost.now c.args.restarts.now.stored.items c.args.restarts.now.front.items order st o runs known has failures c.next.result
     (c.in_ok-failures.ensures st o known.was.events known.was.cluster known.was.now) (c.next.ensures st o known.was.events known.was.cluster known.was.now) missing c.in_ok-missing.ensures.alone lacks c.in-Ok.base behind next.machines.items
     (λ to. c.in-Ok-attempt_from.ensures.stand st o known.was.events known.was.cluster known.was.now to) (store_view next.store) (ap (λ s. s.vertices) c.in-Ok-attempt_from.ensures.store ∙ c.in-Ok-store_behind.ensures.vertices)

@@ -1,5 +1,5 @@
 -- The next attempt goes on from the start.
-use Rattle.std.proofs.Common.{◌≡◌, ◌++◌, ◌∙◌, List, [], ap, filter, refl, subst, sym}
+use Rattle.std.proofs.Common.{◌≡◌, ◌++◌, ◌∙◌, List, [], Some, ap, filter, refl, subst, sym}
 use Rattle.cluster_laws.specs.cluster_runs.Recorded.{shared_of}
 use Rattle.coordinator.specs.coord_core.Stores.{store_view}
 use Rattle.engine_runs.proofs.rollback.Attempts.{goes_so}
@@ -45,8 +45,8 @@ returns-clause-back g c = λ header order st o of runs known has.
     let room = c.no_store-store.ensures in
     let lost = made.lost in
     let failures_are = c.in_ok-failures.ensures st o known.was.events known.was.cluster known.was.now in
-    subst (λ (es : List Entry). RestartsFrom meaning trace next.machines.items c.args.places.now.run.engine (store_view next.store) es lost_now next.lost.items front next.front.items st o known.was.events known.was.cluster) (sym made.order)
-    (goes_so meaning c.args.graph.now (meaning c.args.program) c.args.places.now trace header [] [] lost_now stored front order st o runs known has failures c.next.result
+    subst (λ (es : List Entry). RestartsFrom meaning trace next.machines.items c.args.placed.now.places.now.run.engine (Some (store_view next.store)) es lost_now next.lost.items front next.front.items st o known.was.events known.was.cluster) (sym made.order)
+    (goes_so meaning c.args.placed.now.graph.now (meaning c.args.placed.now.program) c.args.placed.now.places.now trace header [] [] lost_now stored front order st o runs known has failures c.next.result
     failures_are (c.next.ensures st o known.was.events known.was.cluster known.was.now) missing c.in_ok-missing.ensures.alone lacks c.in-Ok.base behind next.machines.items
     (λ to. made.stand st o known.was.events known.was.cluster known.was.now to) (store_view next.store) (ap (λ s. s.vertices) made.store ∙ room.vertices)
     (ap (λ s. s.edges) made.store ∙ room.edges) (ap (λ s. s.newest) made.store ∙ room.newest ∙ sym c.in-Ok.ensures.number)

@@ -1,8 +1,9 @@
 -- The machines that were made begin an attempt, and the call where it can open.
-use Rattle.std.proofs.Common.{List, subst, sym, ◌∙◌}
+use Rattle.std.proofs.Common.{List, Some, subst, sym, ◌∙◌}
 use Rattle.gl_base.specs.declared.jobs.FailureAt.{FailureAt}
-use Rattle.cluster_step.specs.trace.Traces.{StartsCall}
-use Rattle.engine_runs.proofs.start.TraceLemmas.{opens_so, starts_call, starts_some, two_ok}
+use Rattle.cluster_step.proofs.trace.Going.{opens_call}
+use Rattle.cluster_step.specs.trace.Traces.{OpensCall}
+use Rattle.engine_runs.proofs.start.TraceLemmas.{opens_so, starts_call, starts_some}
 use Rattle.engine_runs.specs.start.Inner.Openings.{base_with}
 use Rattle.engine_runs.specs.start.Starting.{IsAnyMachineOf, opening_from, placed_owner}
 use Rattle.coordinator.specs.coord_core.Stores.{store_view}
@@ -10,8 +11,8 @@ use Rattle.placed_machines.proofs.LawLemmas.{attempt_begins}
 use Rattle.placement.proofs.places.OwnerLemmas.{owner_low}
 use Rattle.engine_runs.proofs.start.traces.trace_of.Goals as goal
 
-pub open-requires-clause-start : goal.open-requires-clause-start
-open-requires-clause-start g c =
+pub new-requires-clause-start : goal.new-requires-clause-start
+new-requires-clause-start g c =
     let graph = c.args.placed.now.graph.now in
     let places = c.args.placed.now.places.now in
     let run = places.run in
@@ -24,21 +25,22 @@ open-requires-clause-start g c =
     (owner_low graph run.machines places.of.items places.owner.items c.requires.places.each c.requires.places.atoms c.requires.places.owners) c.requires.places.colours c.requires.base)
 
 pub returns-clause-opened : goal.returns-clause-opened
-returns-clause-opened g c =
+returns-clause-opened g c = λ st resumed kept runs can.
+    let meaning = g.P.Program.meaning in
     let graph = c.args.placed.now.graph.now in
-    let program = g.P.Program.meaning c.args.placed.now.program in
+    let program = meaning c.args.placed.now.program in
     let places = c.args.placed.now.places.now in
     let run = places.run in
     let owner = placed_owner places.of.items places.owner.items in
     let store = c.store_of-store.result in
     let base = c.args.opening.now.base in
-    two_ok c.open.result _ _ _
-    (λ trace opened begun. λ st resumed kept runs can.
-    let starts = starts_call g.P.Program.meaning graph program owner places.colours.items run base c.deref.result.now store c.store_of-store.ensures.store c.in_ok-machines.machines.items c.in_ok-machines.ensures.stand
-    run.machines (c.deref.ensures.value ∙ c.in_ok-serials.ensures.items_if_clones_equal (λ y is. is)) st c.args.failures.now resumed kept c.args.opening.now.next c.tickets_from-left.result c.args.budget runs can c.tickets_from-left.ensures.all in
-    opens_so g.P.Program.meaning trace st c.args.failures.now resumed (base_with kept base) c.args.budget
-    (opened st (opening_from st resumed (base_with kept base) c.args.budget)
-    (subst (λ (fs : List FailureAt). StartsCall (IsAnyMachineOf g.P.Program.meaning) c.in_ok-machines.machines.items run.engine (store_view store) c.args.opening.now.next c.tickets_from-left.result fs st (opening_from st resumed (base_with kept base) c.args.budget))
-    (sym c.in_ok-listed.ensures.items) starts))
-    (λ o opens. begun st o opens))
-    c.open.ensures.opened c.open.ensures.begun
+    let made = c.in_ok-trace.ensures in
+    let failures = c.args.failures.now in
+    let opening = opening_from st resumed (base_with kept base) c.args.budget in
+    let starts = starts_call meaning graph program owner places.colours.items run base c.deref.result.now store c.store_of-store.ensures.store c.in_ok-machines.machines.items c.in_ok-machines.ensures.stand
+    run.machines (c.deref.ensures.value ∙ c.in_ok-serials.ensures.items_if_clones_equal (λ y is. is)) st failures resumed kept c.args.opening.now.next c.tickets_from-left.result c.args.budget runs can c.tickets_from-left.ensures.all in
+    let opens = opens_call (IsAnyMachineOf meaning) c.in_ok-machines.machines.items run.engine (Some (store_view store)) c.args.opening.now.next c.tickets_from-left.result c.in_ok-cluster.cluster c.in_ok-cluster.ensures.began failures st opening starts in
+    opens_so meaning c.in_ok-trace.trace st failures resumed (base_with kept base) c.args.budget
+    (subst (λ p. OpensCall (IsAnyMachineOf meaning) p c.in_ok-trace.trace.failures st opening) (sym made.start)
+    (subst (λ (fs : List FailureAt). OpensCall (IsAnyMachineOf meaning) c.in_ok-cluster.cluster fs st opening) (sym (made.failures ∙ c.in_ok-listed.ensures.items)) opens))
+    (λ o opened. made.begun st o opened)

@@ -6,11 +6,11 @@ use Rattle.engine_runs.proofs.unstored.steps.go_on.Goals as goal
 
 pub returns-clause-known : goal.returns-clause-known
 returns-clause-known g c = λ header start bodies st o known.
-    passes_known (IsAnyMachineOf g.P.Program.meaning) c.args.call.now.trace c.drive_unsaved-pause.new.trace header start bodies _ _ _ _ st o
+    passes_known (IsAnyMachineOf g.P.Program.meaning) c.args.call.now.trace c.drive_unsaved.new.trace header start bodies _ _ _ _ st o
     (record {
-      start = c.drive_unsaved-pause.ensures.same.start ∙ ap (λ (v : _). v.start) c.remember.ensures;
-      failures = c.drive_unsaved-pause.ensures.same.failures ∙ ap (λ (v : _). v.failures) c.remember.ensures;
-      done = c.drive_unsaved-pause.ensures.same.done ∙ ap (λ (v : _). v.done) c.remember.ensures;
-      since = c.drive_unsaved-pause.ensures.same.since ∙ ap (λ (v : _). v.since) c.remember.ensures;
+      start = c.drive_unsaved.ensures.same.start ∙ ap (λ (v : _). v.start) c.remember.ensures;
+      failures = c.drive_unsaved.ensures.same.failures ∙ ap (λ (v : _). v.failures) c.remember.ensures;
+      done = c.drive_unsaved.ensures.same.done ∙ ap (λ (v : _). v.done) c.remember.ensures;
+      since = c.drive_unsaved.ensures.same.since ∙ ap (λ (v : _). v.since) c.remember.ensures;
     })
-    c.machines-machines.ensures.since known
+    c.drive_unsaved.ensures.since known

@@ -1,7 +1,7 @@
 -- What the parts may do, the cluster may.
 use Rattle.std.proofs.Common.{◌≡◌, subst}
-use Rattle.std.specs.Prelude.{IfNone}
-use Rattle.cluster_step.specs.clusters.Events.{CanNotTakePlace}
+use Rattle.std.specs.Prelude.{IfNone, IfSome}
+use Rattle.cluster_step.specs.clusters.Events.{CanNotTakePlace, CanTakePlace}
 use Rattle.cluster_step.specs.declared.clusters.events.Event.TheVariants as event
 use Rattle.cluster_step.specs.declared.clusters.events.Local.TheVariants as local
 use Rattle.coordinator.specs.machine_api.Deeds.{ScopeId}
@@ -10,3 +10,6 @@ use Rattle.cluster_step.proofs.clusters.clusters.SnapCluster.next_update.Goals a
 pub returns-clause-none : goal.returns-clause-none
 returns-clause-none g c =
     subst (λ p. IfNone c.next_update.result ((s : ScopeId) → s.home ≡ c.args.at → CanNotTakePlace g.M.SavingMachine.represents p (event.Local (local.Update s)))) c.self.view_is c.next_update.ensures.none
+
+pub returns-clause-some : goal.returns-clause-some
+returns-clause-some g c = subst (λ p. IfSome c.next_update.result (λ s. CanTakePlace g.M.SavingMachine.represents p (event.Local (local.Update s)))) c.self.view_is c.next_update.ensures.some

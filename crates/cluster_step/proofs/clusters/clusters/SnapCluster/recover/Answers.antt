@@ -1,5 +1,6 @@
 -- The cluster goes on as the law's.
 use Rattle.std.proofs.Common.{◌<◌, ◌∙◌, ap, length, subst, sym}
+use Rattle.std.specs.Prelude.{option_map}
 use Rattle.cluster_laws.specs.cluster_core.Recovering.{going_on}
 use Rattle.cluster_laws.specs.cluster_model.Events.{recovers}
 use Rattle.coordinator.specs.coord_core.Stores.{store_view}
@@ -17,7 +18,7 @@ returns-clause-machines g c = ap length c.in_ok-parts.ensures.machines ∙ c.req
 pub invariant_of-self : goal.invariant_of-self
 invariant_of-self g c =
     let again = c.requires.again in
-    let starts = subst (λ p. StartsSaving g.M.SavingMachine.represents c.args.machines.items c.args.engine (store_view c.args.store) p.next p.left again.0 again.1 again.2) (sym c.self.view_is) again.3 in (
+    let starts = subst (λ p. StartsSaving g.M.SavingMachine.represents c.args.machines.items c.args.engine (option_map store_view c.args.store) p.next p.left again.0 again.1 again.2) (sym c.self.view_is) again.3 in (
       going_on again.0 again.1.numbers again.1.number,
       recovers again.0 again.1 again.2,
       began_setting again.0 again.3.setting again.1,
@@ -27,10 +28,10 @@ invariant_of-self g c =
 pub returns-clause-recovered : goal.returns-clause-recovered
 returns-clause-recovered g c = λ st own base goes.
     c.in_ok-parts.ensures.began st base own
-    (subst (λ p. StartsSaving g.M.SavingMachine.represents c.args.machines.items c.args.engine (store_view c.args.store) p.next p.left st base own) (sym c.self.view_is) goes.starts)
+    (subst (λ p. StartsSaving g.M.SavingMachine.represents c.args.machines.items c.args.engine (option_map store_view c.args.store) p.next p.left st base own) (sym c.self.view_is) goes.starts)
 
 pub returns-clause-runs : goal.returns-clause-runs
 returns-clause-runs g c =
     let again = c.requires.again in
-    let starts = subst (λ p. StartsSaving g.M.SavingMachine.represents c.args.machines.items c.args.engine (store_view c.args.store) p.next p.left again.0 again.1 again.2) (sym c.self.view_is) again.3 in
+    let starts = subst (λ p. StartsSaving g.M.SavingMachine.represents c.args.machines.items c.args.engine (option_map store_view c.args.store) p.next p.left again.0 again.1 again.2) (sym c.self.view_is) again.3 in
     sym (c.in_ok-parts.ensures.began again.0 again.1 again.2 starts).stopped

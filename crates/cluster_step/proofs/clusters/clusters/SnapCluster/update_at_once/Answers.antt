@@ -1,9 +1,10 @@
 -- What the parts make at once, the cluster does.
 use Rattle.std.proofs.Common.{subst}
-use Rattle.std.specs.Prelude.{IfOk, IsErrOf}
+use Rattle.std.specs.Prelude.{IfOk, IsErrOf, OnErr}
 use Rattle.gl_base.specs.declared.refusals.Refused.TheVariants.{NoMemory, NotNow}
 use Rattle.cluster_step.specs.clusters.AtOnce.{CanNotTakePlaceAtOnce, CanTakePlaceAtOnce, TakesPlaceAtOnce}
 use Rattle.cluster_step.proofs.clusters.AtOnceRuns.{some_at_once}
+use Rattle.cluster_step.specs.clusters.Clusters.{StandsForSameSaving}
 use Rattle.cluster_step.proofs.clusters.clusters.SnapCluster.update_at_once.Goals as goal
 
 pub invariant_of-self : goal.invariant_of-self
@@ -17,3 +18,6 @@ returns-clause-not_now g c = subst (λ p. IsErrOf c.update_at_once.result NotNow
 
 pub returns-clause-no_memory : goal.returns-clause-no_memory
 returns-clause-no_memory g c = subst (λ p. IsErrOf c.update_at_once.result NoMemory → CanTakePlaceAtOnce g.M.SavingMachine.represents p c.args.at.0) c.self.view_is c.update_at_once.ensures.answers.no_memory
+
+pub returns-clause-unchanged : goal.returns-clause-unchanged
+returns-clause-unchanged g c = subst (λ p. OnErr c.update_at_once.result (StandsForSameSaving g.M.SavingMachine.represents p c.update_at_once.new.self)) c.self.view_is c.update_at_once.ensures.answers.unchanged

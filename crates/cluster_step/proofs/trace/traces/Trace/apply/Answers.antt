@@ -29,3 +29,6 @@ returns-clause-unchanged g c =
 
 pub returns-clause-same : goal.returns-clause-same
 returns-clause-same g c = attempt_seen _ c.args.self.now c.self.view_is c.apply.new.self c.apply.ensures.machines (c.apply.ensures.stopped (no_stop c.args.event c.requires.none))
+
+pub returns-clause-since : goal.returns-clause-since
+returns-clause-since g c = (invariant_of-self g c).goes_on

@@ -1,6 +1,6 @@
 -- What the cluster makes at once is so of each course.
-use Rattle.std.proofs.Common.{◌≡◌, false, refl, sym, ◌∙◌}
-use Rattle.cluster_step.specs.trace.Traces.{InEachTrace}
+use Rattle.std.proofs.Common.{◌≡◌, false, refl, subst, sym, ◌∙◌}
+use Rattle.cluster_step.specs.trace.Traces.{InEachTrace, TraceGoesOn, as_since}
 use Rattle.cluster_step.proofs.trace.AtOnceGoing.{can_at_once, cannot_at_once, kept_at_once, made_at_once, unchanged_at_once}
 use Rattle.cluster_step.proofs.trace.Going.{attempt_seen}
 use Rattle.cluster_step.proofs.trace.traces.Trace.update_at_once.Given as given
@@ -31,3 +31,9 @@ returns-clause-unchanged g c =
 
 pub returns-clause-same : goal.returns-clause-same
 returns-clause-same g c = attempt_seen _ c.args.self.now c.self.view_is c.update_at_once.new.self c.update_at_once.ensures.machines c.update_at_once.ensures.stopped
+
+pub returns-then-has_reached-clause-since : goal.returns-then-has_reached-clause-since
+returns-then-has_reached-clause-since g c = subst (λ v. TraceGoesOn g.M.SavingMachine.represents (as_since v) v) c.self.view_is c.self.invariant.goes_on
+
+pub returns-clause-since : goal.returns-clause-since
+returns-clause-since g c = (invariant_of-self g c).goes_on
