@@ -10,5 +10,6 @@ pub use crate::clusters::{
     Coordinator, Due, Engine, Event, Lead, Local, Passage, SavingMachine, Store,
 };
 pub use apart::OpenTrace;
+pub use failing::is_count_reached;
 pub use laws::traces_add_up;
 pub use traces::Trace;

@@ -1,5 +1,5 @@
 //! A course whose cluster is taken out for a while, and put back.
-ghost use Rattle.std.specs.Prelude.{◌≡◌, length};
+ghost use Rattle.std.specs.Prelude.{◌≡◌, ℕ, false, length, slice_index_or, IsTrue};
 ghost use Rattle.cluster_step.specs.clusters.Clusters.{StandsForSaving};
 ghost use Rattle.cluster_step.specs.trace.Later.{IsLaterInAttempt, apart_now, with_cluster};
 ghost use Rattle.cluster_step.specs.trace.Traces.{IsSameAttempt};
@@ -60,9 +60,31 @@ impl<M: SavingMachine> Trace<M> {
         };
         (trace, cluster.into_parts())
     }
+
+    /// Whether no machine has failed in this attempt.
+    pub fn are_all_awake(&self) -> bool
+        ensures { IsTrue result →
+            (a : ℕ) → slice_index_or self.now.now.failed.items a false ≡ false }
+    {
+        !self.cluster.parts.failed.iter().any(|failed| *failed)
+    }
 }
 
 impl<M: SavingMachine> OpenTrace<M> {
+    /// The failures that the job orders.
+    pub fn failures(&self) -> &Vec<FailureAt>
+        ensures { result.now.items ≡ self.now.failures }
+    {
+        &self.failures
+    }
+
+    /// How many updates each machine had completed as the attempt began.
+    pub fn done(&self) -> &Vec<u64>
+        ensures { result.now.items ≡ self.now.done }
+    {
+        &self.done
+    }
+
     /// Puts the parts of a later cluster of the same attempt into the course, which remembers it.
     pub fn joined(self, parts: Parts<M>) -> Trace<M>
         requires stands { StandsForSaving M.represents parts }

@@ -22,7 +22,7 @@ pub(crate) fn watched(event: Event) -> Option<(MachineNo, bool)>
 
 /// Whether the machine, which had completed so many updates before, has reached the count of one of
 /// the failures with these more.
-pub(crate) fn is_count_reached(failures: &[FailureAt], m: MachineNo, before: u64, made: u64) -> bool
+pub fn is_count_reached(failures: &[FailureAt], m: MachineNo, before: u64, made: u64) -> bool
     ensures { result ≡ reaches failures.now m.0 before (before + made) }
 {
     failures
