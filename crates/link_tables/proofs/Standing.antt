@@ -60,3 +60,24 @@ rests_together {P} {Q} me other me' p x r o is =
 -- it has one queue in a link
 pub same_queue : {Q : Type 0} → (i : ℕ) (q r : Q) → ◌≡◌ {A = List (ℕ × Q)} ((i, q) ∷ []) ((i, r) ∷ []) → q ≡ r
 same_queue {Q} i q r e = let both : ◌≡◌ {A = ℕ × Q} (i, q) (i, r) = cc in ap (λ (x : ℕ × Q). x.1) both
+
+-- ---- a seat with more parts
+
+-- its second part has gone
+pub rests_without : {P Q : Type 0} → (me me' : Sat P Q) (p x : P) (others : List P) → Rests me p (x ∷ others) → me' ≡ (first_alone me.0, []) → Rests me' p others
+rests_without {P} {Q} me me' p x others r is =
+    subst (λ (m : Sat P Q). Rests m p others) (sym is) (record { parts = ap without_second r.parts; link = r.link; slots = refl })
+
+-- a new seat has it
+pub rests_only : {P Q : Type 0} → (me me' : Sat P Q) (p x : P) (others : List P) → Rests me p (x ∷ others) → me' ≡ (second_alone me.0, []) → Rests me' x []
+rests_only {P} {Q} me me' p x others r is =
+    subst (λ (m : Sat P Q). Rests m x []) (sym is) (record { parts = ap only_second r.parts; link = refl; slots = refl })
+
+-- another seat's part stands behind its parts
+pub rests_joined : {P Q : Type 0} → (me other me' : Sat P Q) (p x : P) (others : List P) → Rests me p others → Rests other x [] → me' ≡ (together me.0 other.0, me.1) → Rests me' p (others ++ x ∷ [])
+rests_joined {P} {Q} me other me' p x others r o is =
+    subst (λ (m : Sat P Q). Rests m p (others ++ x ∷ [])) (sym is) (record {
+      parts = ap (λ (xs : List P). xs ++ other.0.parts) r.parts ∙ ap (λ (xs : List P). (p ∷ others) ++ xs) o.parts;
+      link = r.link;
+      slots = r.slots;
+    })

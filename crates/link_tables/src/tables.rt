@@ -86,6 +86,7 @@ impl<P, Q: Drop, K: Drop, R: LinkRule<P, Q, K>> LinkTable<P, Q, K, R> {
         ensures ended { (left : ℕ) × (result.1 + left ≡ self.top) ×
             Ended R.number_of (R.led self.table.shared.key.about) place.seat.me.0.parts
             result.0.items result.1 left }
+        ensures count { length result.0.items ≡ self.many }
     {
         let LinkTable {
             table,

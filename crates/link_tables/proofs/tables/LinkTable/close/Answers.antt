@@ -59,4 +59,4 @@ returns g c =
     let word = subst (λ (n : ℕ). get_elem? closed.words.items n ≡ some c.word-next.result) (c.word_place.ensures ∙ ap word_at (sym t.told.0)) c.word-next.ensures in
     let e = closes g.R.LinkRule.number_of g.R.LinkRule.empty (g.R.LinkRule.led k.about) k.many k.top (length (g.R.LinkRule.first k.about)) c.args.place.seat.id c.word-next.result me closed.words.items slots
     c.requires.all.0 c.requires.all.1 word c.close_with-closed.ensures.values.2 in
-    record { ended = (e.0, e.1 ∙ t.told.1, subst (λ (l : List g.row.Q.Denot). Ended g.R.LinkRule.number_of (g.R.LinkRule.led k.about) me.parts l c.word-next.result e.0) (sym are) e.2) }
+    record { ended = (e.0, e.1 ∙ t.told.1, subst (λ (l : List g.row.Q.Denot). Ended g.R.LinkRule.number_of (g.R.LinkRule.led k.about) me.parts l c.word-next.result e.0) (sym are) e.2); count = let a = i.count in let b = c.loop-link.links.ok.0 in omega (arith, last, done) }
