@@ -26,7 +26,7 @@ zero_more a = omega arith
 
 -- ---- machines with their numbers
 
-length_nodes : {M : Type 0} (xs : List (Standing M)) → length (nodes xs) ≡ length xs
+pub length_nodes : {M : Type 0} (xs : List (Standing M)) → length (nodes xs) ≡ length xs
 length_nodes [] = refl
 length_nodes (x ∷ xs) = ap suc (length_nodes xs)
 

@@ -31,7 +31,7 @@ use Rattle.wire_board.specs.Led.{HoldParts, HasBeenLed, IsMachineAt, Lead, Leadi
 use Rattle.wire_board.specs.Openings.{AreOpening, standing_parts}
 use Rattle.wire_board.specs.Standings.{Member, at_rest}
 
-in_range : {A : Type 0} (l : List A) (i : ℕ) → i < length l → (a : A) × (get_elem? l i ≡ some a)
+pub in_range : {A : Type 0} (l : List A) (i : ℕ) → i < length l → (a : A) × (get_elem? l i ≡ some a)
 in_range [] i h = absurd (omega arith)
 in_range (x ∷ xs) zero h = (x, refl)
 in_range (x ∷ xs) (suc i) h = in_range xs i (omega arith)

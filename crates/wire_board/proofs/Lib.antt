@@ -12,3 +12,5 @@ pub mod Singles
 pub mod Leads
 pub mod LeadPlaces
 pub mod Gathering
+pub mod Attempting
+pub mod Turning

@@ -6,3 +6,4 @@ pub mod Led
 pub mod Openings
 pub mod Seats
 pub mod Closings
+pub mod Attempts

@@ -118,6 +118,7 @@ impl<M: SavingMachine> Board<M> {
             self.table.table.shared.key.about.opening.value)
             self.table.table.shared.key.about.machines) place.seat.me.0.parts
             result.0.items result.1 left }
+        ensures count { length result.0.items ≡ self.table.many }
     {
         let Board { table } = self;
         table.close(place)

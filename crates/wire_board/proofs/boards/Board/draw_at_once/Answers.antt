@@ -1,4 +1,4 @@
-use Rattle.std.proofs.Common.{[], ap, refl, subst, sym, ◌∙◌, ◌≡◌, ℕ}
+use Rattle.std.proofs.Common.{[], ap, refl, subst, sym, ◌∙◌, ℕ}
 use Rattle.link_tables.proofs.Standing.{rests_changed}
 use Rattle.link_tables.specs.Seats.{saw, word_at}
 use Rattle.wire_board.proofs.Places.{at_err, sits_changed, sits_read}

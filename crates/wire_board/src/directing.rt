@@ -1,0 +1,143 @@
+//! The coordinator's turn on a board.
+ghost use Rattle.std.specs.Prelude.{◌≡◌, ◌+◌, ◌*◌, ◌^◌, ◌<◌, ℕ, suc, List, OnOk};
+ghost use Rattle.link_tables.specs.Seats.{Rests};
+ghost use Rattle.wire_board.specs.Led.{Lead};
+ghost use Rattle.wire_board.specs.Seats.{Leads};
+
+use crate::boards::Board;
+use crate::passing::{Heard, Told};
+use crate::standings::{Leading, Seated};
+use cluster_step::clusters::{Due, Link, SavingMachine};
+use gl_base::{MachineNo, NoMemory, Refused};
+use link_tables::Place;
+use std::alloc::Global;
+use std::marker::Brand;
+
+/// How the coordinator's turn has gone.
+#[derive(Clone, Copy, Debug, PartialEq, Eq)]
+pub enum Directed {
+    /// Something moved.
+    Moved,
+    /// Nothing moved.
+    Nothing,
+    /// A record is due, or the end.
+    Ending,
+}
+
+impl<M: SavingMachine> Board<M> {
+    /// The coordinator's turn: it tells each machine a call, hears a report of each, and does what
+    /// is due. It puts a wave out only where nothing has moved. Where a record is due, or the end,
+    /// it does nothing of its own.
+    pub fn direct(
+        &self,
+        alloc: Global,
+        lead: &mut Leading,
+        place: &mut Place<Seated<M>, Link>,
+        moved: bool,
+    ) -> Result<Directed, NoMemory>
+        requires table { place.old.seat.table_id ≡ self.now.table.table.shared.table_id }
+        requires links { (suc lead.old.number * suc lead.old.number ≡ self.now.table.many) ×
+            (suc lead.old.number < 2 ^ 16) }
+        requires sits { (others : List (Seated M)) × Leads lead.old others place.old.seat.me }
+        ensures table { place.new.seat.table_id ≡ place.old.seat.table_id }
+        ensures sits { (others : List (Seated M)) → Leads lead.old others place.old.seat.me →
+            Leads lead.new others place.new.seat.me }
+        ensures number { lead.new.number ≡ lead.old.number }
+    {
+        let told = self.tell_calls(alloc, lead, place)?;
+        let heard = self.hear_reports(alloc, lead, place);
+        self.lead(lead, place, moved || told || heard)
+    }
+
+    /// Tells each machine a call that waits for it. Says whether one did.
+    fn tell_calls(
+        &self,
+        alloc: Global,
+        lead: &mut Leading,
+        place: &mut Place<Seated<M>, Link>,
+    ) -> Result<bool, NoMemory>
+        requires table { place.old.seat.table_id ≡ self.now.table.table.shared.table_id }
+        requires links { (suc lead.old.number * suc lead.old.number ≡ self.now.table.many) ×
+            (suc lead.old.number < 2 ^ 16) }
+        requires sits { (others : List (Seated M)) × Leads lead.old others place.old.seat.me }
+        ensures table { place.new.seat.table_id ≡ place.old.seat.table_id }
+        ensures sits { (others : List (Seated M)) → Leads lead.old others place.old.seat.me →
+            Leads lead.new others place.new.seat.me }
+        ensures number { lead.new.number ≡ lead.old.number }
+    {
+        let mut moved = false;
+        for to in 0..lead.number {
+            let how = self.tell_call(alloc, lead, place, MachineNo(to as u16))?;
+            if how != Told::Nothing {
+                moved = true;
+            }
+        }
+        Ok(moved)
+    }
+
+    /// Hears a report of each machine. Says whether one has come.
+    fn hear_reports(
+        &self,
+        alloc: Global,
+        lead: &mut Leading,
+        place: &mut Place<Seated<M>, Link>,
+    ) -> bool
+        requires table { place.old.seat.table_id ≡ self.now.table.table.shared.table_id }
+        requires links { (suc lead.old.number * suc lead.old.number ≡ self.now.table.many) ×
+            (suc lead.old.number < 2 ^ 16) }
+        requires sits { (others : List (Seated M)) × Leads lead.old others place.old.seat.me }
+        ensures table { place.new.seat.table_id ≡ place.old.seat.table_id }
+        ensures sits { (others : List (Seated M)) → Leads lead.old others place.old.seat.me →
+            Leads lead.new others place.new.seat.me }
+        ensures number { lead.new.number ≡ lead.old.number }
+    {
+        let mut moved = false;
+        for from in 0..lead.number {
+            let how = self.hear_report(alloc, lead, place, MachineNo(from as u16));
+            if how == Heard::Applied {
+                moved = true;
+            }
+        }
+        moved
+    }
+
+    /// Does what is due of its own.
+    fn lead(
+        &self,
+        lead: &mut Leading,
+        place: &mut Place<Seated<M>, Link>,
+        moved: bool,
+    ) -> Result<Directed, NoMemory>
+        requires table { place.old.seat.table_id ≡ self.now.table.table.shared.table_id }
+        requires sits { (others : List (Seated M)) × Leads lead.old others place.old.seat.me }
+        ensures table { place.new.seat.table_id ≡ place.old.seat.table_id }
+        ensures sits { (others : List (Seated M)) → Leads lead.old others place.old.seat.me →
+            Leads lead.new others place.new.seat.me }
+        ensures number { lead.new.number ≡ lead.old.number }
+    {
+        let came = match lead.coordinator.due() {
+            Due::Snapshot(_) => self.begin(lead, place),
+            Due::Step(_) => self.step(lead, place),
+            Due::Wave if !moved => self.wave(lead, place),
+            Due::Record(_) | Due::Ended => return Ok(Directed::Ending),
+            _ => Err(Refused::NotNow),
+        };
+        match came {
+            Ok(()) => Ok(Directed::Moved),
+            Err(Refused::NoMemory) => Err(NoMemory),
+            Err(Refused::NotNow) if moved => Ok(Directed::Moved),
+            Err(Refused::NotNow) => Ok(Directed::Nothing),
+        }
+    }
+
+    /// The coordinator's place has it as it is now.
+    pub fn rest_lead(&self, lead: &Leading, place: &mut Place<Seated<M>, Link>)
+        requires table { place.old.seat.table_id ≡ self.now.table.table.shared.table_id }
+        requires sits { (others : List (Seated M)) × Leads lead.now others place.old.seat.me }
+        ensures table { place.new.seat.table_id ≡ place.old.seat.table_id }
+        ensures rests { (others : List (Seated M)) → Leads lead.now others place.old.seat.me →
+            Rests place.new.seat.me (Lead lead.now) others }
+    {
+        self.table.settle::<Brand, Leading>(place, lead);
+    }
+}

@@ -1,0 +1,49 @@
+//! What a machine does by itself.
+ghost use Rattle.std.specs.Prelude.{◌≡◌};
+ghost use Rattle.wire_board.specs.Standings.{ComesOn};
+
+use cluster_step::clusters::SavingMachine;
+use gl_base::{NoMemory, Refused};
+
+/// Whether it was done.
+fn was_done(came: Result<(), Refused>) -> Result<bool, NoMemory> {
+    match came {
+        Ok(()) => Ok(true),
+        Err(Refused::NotNow) => Ok(false),
+        Err(Refused::NoMemory) => Err(NoMemory),
+    }
+}
+
+/// Grants a lock, or else makes a snapshot update, or else puts the section out. Says whether there
+/// was one.
+fn go_on<M: SavingMachine>(machine: &mut M) -> Result<bool, NoMemory>
+    ensures { ComesOn M.represents machine.old machine.new }
+{
+    if let Some(x) = machine.next_grant() {
+        return was_done(machine.grant(x));
+    }
+    if let Some(scope) = machine.next_mark() {
+        return was_done(machine.mark(scope));
+    }
+    was_done(machine.section())
+}
+
+/// Does all that may be done without a ticket and without a message. Says whether there was
+/// something.
+pub(crate) fn settle_all<M: SavingMachine>(machine: &mut M) -> Result<bool, NoMemory>
+    ensures { ComesOn M.represents machine.old machine.new }
+{
+    for times in 0..u64::MAX {
+        if !go_on(machine)? {
+            return Ok(times > 0);
+        }
+    }
+    Ok(true)
+}
+
+/// Admits a scope. Says whether one was.
+pub(crate) fn admit_one<M: SavingMachine>(machine: &mut M) -> Result<bool, NoMemory>
+    ensures { ComesOn M.represents machine.old machine.new }
+{
+    was_done(machine.admit())
+}
