@@ -3,6 +3,8 @@
 #![tactic(auto)]
 
 mod padding;
+#[cfg(test)]
+mod posting;
 mod rules;
 mod tables;
 #[cfg(test)]
