@@ -1,5 +1,4 @@
 -- The machine is between its calls.
-use Rattle.std.proofs.Common.{sym}
 use Rattle.snapshot_machines.proofs.chromatic.machines.ColorSnapMachine.can_mark.Goals as goal
 
 pub returns-clause-order : goal.returns-clause-order

@@ -1,5 +1,5 @@
 -- The news are received as the law says, and whom they name stands in line.
-use Rattle.std.proofs.Common.{ap, length, sym, subst, ◌∙◌, List}
+use Rattle.std.proofs.Common.{ap, length, sym, subst, List}
 use Rattle.gl_base.specs.declared.numbers.Vertex.{Vertex}
 use Rattle.partition.specs.machine_numbers.Views.{LocalView}
 use Rattle.machine_core.specs.declared.machine_parts.cores.Core.{Core}

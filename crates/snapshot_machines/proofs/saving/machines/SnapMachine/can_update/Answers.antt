@@ -1,5 +1,4 @@
 -- The machine is between its calls.
-use Rattle.std.proofs.Common.{sym}
 use Rattle.snapshot_machines.proofs.saving.StayLemmas.{in_order}
 use Rattle.snapshot_machines.proofs.saving.machines.SnapMachine.can_update.Goals as goal
 
