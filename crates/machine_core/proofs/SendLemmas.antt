@@ -1,5 +1,5 @@
 -- The first message that waits for a machine is taken.
-use Rattle.std.proofs.Common.{◌≡◌, ℕ, zero, suc, ◌<◌, Bool, true, false, if◌then◌else◌, Option, None, Some, List, [], ◌∷◌, length, map, set, get_or, slice_get, inl, inr, nat_lt, ◌↔◌, true≢false, refl, sym, ap, ◌∙◌, arith, get_or-set_same, get_or-set_other}
+use Rattle.std.proofs.Common.{◌≡◌, ℕ, zero, suc, ◌<◌, Bool, true, if◌then◌else◌, None, Some, List, [], ◌∷◌, length, map, set, get_or, slice_get, inl, inr, nat_lt, ◌↔◌, true≢false, refl, sym, ap, ◌∙◌, arith, get_or-set_same, get_or-set_other}
 use Rattle.std.proofs.lemmas.Bool.{cases_eq, eq-eqb, ne_eqb, lt-ltb}
 use Rattle.std.proofs.lemmas.List.{set-get_or}
 use Rattle.gl_base.specs.declared.numbers.MachineNo.{MachineNo}
