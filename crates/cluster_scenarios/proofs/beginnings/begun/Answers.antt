@@ -1,5 +1,5 @@
 -- The machines begin an attempt of the law with any tickets.
-use Rattle.tests_savers.proofs.beginnings.begun.Goals as goal
+use Rattle.cluster_scenarios.proofs.beginnings.begun.Goals as goal
 
 pub new-requires-clause-start : goal.new-requires-clause-start
 new-requires-clause-start g c = c.in_ok-start.ensures.start _ _

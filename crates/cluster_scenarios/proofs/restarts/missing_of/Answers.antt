@@ -1,7 +1,7 @@
 -- The order that the attempt began with has the store's restarts first.
 use Rattle.std.proofs.Common.{◌∙◌, sym}
-use Rattle.tests_savers.proofs.RestartLemmas.{begins_with}
-use Rattle.tests_savers.proofs.restarts.missing_of.Goals as goal
+use Rattle.cluster_scenarios.proofs.RestartLemmas.{begins_with}
+use Rattle.cluster_scenarios.proofs.restarts.missing_of.Goals as goal
 
 pub missing_restarts-requires : goal.missing_restarts-requires
 missing_restarts-requires c =

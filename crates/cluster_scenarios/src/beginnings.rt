@@ -279,7 +279,14 @@ pub fn begun<P: Program>(alloc: Global, beginning: &Beginning<'_, P>) -> Result<
         return Err(Trouble::Because("there are too many tickets"));
     }
     let start = first_start(alloc, beginning, &beginning.base)?;
-    Ok(SnapCluster::new(alloc, start.machines, start.engine, Some(start.store), 0, tickets)?)
+    Ok(SnapCluster::new(
+        alloc,
+        start.machines,
+        start.engine,
+        Some(start.store),
+        0,
+        tickets,
+    )?)
 }
 
 /// Returns the start from this base, of machines that have admitted nothing.

@@ -1,7 +1,7 @@
 -- The machines begin an attempt of the law.
 use Rattle.std.proofs.Common.{refl}
-use Rattle.tests_savers.proofs.StartLemmas.{start_of}
-use Rattle.tests_savers.proofs.beginnings.start_at.Goals as goal
+use Rattle.cluster_scenarios.proofs.StartLemmas.{start_of}
+use Rattle.cluster_scenarios.proofs.beginnings.start_at.Goals as goal
 
 pub returns-clause-start : goal.returns-clause-start
 returns-clause-start g c next left =

@@ -1,5 +1,5 @@
 //! The replay of an order on the undivided graph.
-ghost use Rattle.tests_savers.specs.Replays.{starting_with};
+ghost use Rattle.cluster_scenarios.specs.Replays.{starting_with};
 
 use crate::trouble::Trouble;
 use gl_base::{Base, EdgeNo, Entry, Vertex};
