@@ -46,6 +46,8 @@ pub struct Beginning<'a, P: Program> {
     pub tickets: u64,
     /// The numbers with which the run begins.
     pub base: Base,
+    /// Whether a call begins on a board.
+    pub is_on_board: bool,
 }
 
 /// Returns what the plan says of it.
@@ -75,6 +77,7 @@ pub fn beginning_of<'a, P: Program>(
         engine: plan.engine,
         tickets: plan.tickets,
         base,
+        is_on_board: plan.is_on_board,
     })
 }
 

@@ -19,9 +19,13 @@ use scenario_lines::{Line, Page, is_remark};
 use std::alloc::Global;
 use std::sync::Wait;
 use update_api::Program;
+use wire_board::play_on_board;
 
 /// As often as a call may pause.
 const MOST_PAUSES: u32 = 1000000;
+
+/// As many rounds as are played on a board.
+const MOST_ROUNDS: u32 = 1000000;
 
 /// A call, with the store beside it, how often machines went back, and why it paused last.
 #[derive(Drop)]
@@ -82,7 +86,15 @@ fn opened_trace<P: Program>(
     let base = newest_base(alloc, beginning, kept)?;
     let outcome = begin_call(alloc, beginning, &base, failures);
     drop(base);
-    outcome
+    if !beginning.is_on_board {
+        return outcome;
+    }
+    let trace = play_on_board(alloc, outcome?, MOST_ROUNDS)?;
+    if trace.next() == 0 {
+        drop(trace);
+        return Err(Trouble::Because("no update is made on the board"));
+    }
+    Ok(trace)
 }
 
 /// Goes on from pause to pause until the call has ended, or its budget is spent.

@@ -27,6 +27,8 @@ pub struct Plan {
     pub failures: Vec<FailureAt>,
     /// Whether the scenario is a call that is driven to its end.
     pub is_call: bool,
+    /// Whether a call begins on a board.
+    pub is_on_board: bool,
 }
 
 /// What a line says of a cluster.
@@ -51,10 +53,11 @@ enum Part {
     Marks,
     Failures,
     Driven,
+    Board,
 }
 
 /// Each of them with its word.
-static PARTS: [(&str, Part); 20] = [
+static PARTS: [(&str, Part); 21] = [
     ("given", Part::Heading),
     ("scenario", Part::Heading),
     ("vertices", Part::Vertices),
@@ -75,6 +78,7 @@ static PARTS: [(&str, Part); 20] = [
     ("marks", Part::Marks),
     ("failures", Part::Failures),
     ("driven", Part::Driven),
+    ("board", Part::Board),
 ];
 
 /// Takes what the first lines say of the cluster, writes them as they were taken, and returns how
@@ -121,6 +125,7 @@ impl Plan {
             marks: Vec::new(alloc),
             failures: Vec::new(alloc),
             is_call: false,
+            is_on_board: false,
         }
     }
 
@@ -162,6 +167,7 @@ impl Plan {
             Part::Window => self.window = number,
             Part::Tickets => self.tickets = number,
             Part::Driven => self.is_call = true,
+            Part::Board => self.is_on_board = true,
             _ => self.run(Algorithm::Components, 0),
         }
     }
