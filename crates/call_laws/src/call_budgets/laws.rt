@@ -17,13 +17,16 @@ pub fn attempts_keep_to_the_bound()
         length (made_of call) ≤ (1 + length shared.failures) * bound }
     ensures left { (shared : Shared) (call : EngineCall) (bound : ℕ) → IsEngineCall shared call →
         BoundsSteps shared.graph shared.program bound →
-        (v : ℕ) → tasks_after shared.graph shared.program (call_order call) v ≡ true → length (made_of call) < (1 + length shared.failures) * bound }
+        (v : ℕ) → tasks_after shared.graph shared.program (call_order call) v ≡ true →
+        length (made_of call) < (1 + length shared.failures) * bound }
 {}
 
 /// The order of a call has no more entries than that of its base, the updates that it made, and a
 /// restart for each failure and one where it resumes.
 pub fn orders_grow_by_updates()
-    ensures { (shared : Shared) (call : EngineCall) → IsEngineCall shared call → length (call_order call) ≤ length call.base + 1 + length (made_of call) + length shared.failures }
+    ensures { (shared : Shared) (call : EngineCall) → IsEngineCall shared call →
+        length (call_order call) ≤
+        length call.base + 1 + length (made_of call) + length shared.failures }
 {}
 
 /// The last snapshot of a call, the restarts that it lacks of those with which the last attempt

@@ -17,7 +17,8 @@ pub fn an_edge_in_one_section()
     ensures premises { IsTraceOfCall pair_with_store [] [] false (first_base pair_with_store)
         (fresh_cluster pair_with_store) pair_saves_once both_come }
     ensures due { RecordIsDue pair_with_store both_come.coordinator }
-    ensures sections { (((snapshot_due both_come.coordinator).sections 0).section.edges 0 ≡ Some 0) × (((snapshot_due both_come.coordinator).sections 1).section.edges 0 ≡ None) }
+    ensures sections { (((snapshot_due both_come.coordinator).sections 0).section.edges 0 ≡
+        Some 0) × (((snapshot_due both_come.coordinator).sections 1).section.edges 0 ≡ None) }
     ensures entries { entries_below 2 (snapshot_due both_come.coordinator) ≡ Go (record { 0 = 0 })
         (record { 0 = 0 }) 0 ∷ [] }
     ensures tickets { (both_come.next ≡ 1) × (both_come.left ≡ 19) }

@@ -43,7 +43,9 @@ pub fn sections_keep_to_the_graph()
     ensures edges { (st : Setting) (failures : List FailureAt) (kept : List Entry) (resumed : Bool)
         (base : BaseView) (first : Cluster) (events : List Event) (c : Cluster) →
         IsTraceOfCall st failures kept resumed base first events c → RecordIsDue st c.coordinator →
-        (a e x : ℕ) → a < st.machines → ((snapshot_due c.coordinator).sections a).section.edges e ≡ Some x → e < length st.graph.edges }
+        (a e x : ℕ) → a < st.machines →
+        ((snapshot_due c.coordinator).sections a).section.edges e ≡ Some x →
+        e < length st.graph.edges }
     ensures updates { (st : Setting) (failures : List FailureAt) (kept : List Entry)
         (resumed : Bool) (base : BaseView) (first : Cluster) (events : List Event) (c : Cluster) →
         IsTraceOfCall st failures kept resumed base first events c → RecordIsDue st c.coordinator →
@@ -62,8 +64,10 @@ pub fn tickets_keep_to_the_budget()
     ensures updates { (st : Setting) (failures : List FailureAt) (kept : List Entry)
         (resumed : Bool) (base : BaseView) (first : Cluster) (events : List Event) (c : Cluster) →
         IsTraceOfCall st failures kept resumed base first events c → RecordIsDue st c.coordinator →
-        AllByRecursion (λ entry. ticket_of entry < first.next + first.left) (entries_below st.machines (snapshot_due c.coordinator)) }
+        AllByRecursion (λ entry. ticket_of entry < first.next + first.left)
+        (entries_below st.machines (snapshot_due c.coordinator)) }
     ensures front { (st : Setting) (failures : List FailureAt) (kept : List Entry) (resumed : Bool)
         (base : BaseView) (first : Cluster) (events : List Event) (c : Cluster) →
-        IsTraceOfCall st failures kept resumed base first events c → AllByRecursion (λ entry. ticket_of entry ≤ first.next + first.left) c.base.order }
+        IsTraceOfCall st failures kept resumed base first events c →
+        AllByRecursion (λ entry. ticket_of entry ≤ first.next + first.left) c.base.order }
 {}

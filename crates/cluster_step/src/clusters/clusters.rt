@@ -120,13 +120,14 @@ impl<M: SavingMachine> SnapCluster<M> {
         store: Option<Store>,
     ) -> Result<(), NoMemory>
         requires again { (st : Setting) × (base : BaseView) × (before : Cluster) ×
-            StartsSaving M.represents machines.items engine (option_map store_view store) self.old.next
-            self.old.left st base before }
+            StartsSaving M.represents machines.items engine (option_map store_view store)
+            self.old.next self.old.left st base before }
         requires many { length machines.items ≡ length self.old.machines.items }
         requires newest { IfSome store (λ s. s.newest + 1 < 2 ^ 32) }
         requires length { IfSome store (λ s. s.length < 2 ^ 32) }
         ensures recovered { OnOk result ((st : Setting) (c : Cluster) (base : BaseView) →
-            GoesOnWith M.represents self.old machines.items engine (option_map store_view store) st c base →
+            GoesOnWith M.represents self.old machines.items engine
+            (option_map store_view store) st c base →
             IsSavingClusterOf M.represents (going_on st base.numbers base.number)
             self.new (recovers st base c)) }
         ensures unchanged { OnErr result (self.new ≡ self.old) }

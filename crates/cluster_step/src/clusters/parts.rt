@@ -542,7 +542,8 @@ pub(crate) fn first_parts<M: SavingMachine>(
     requires newest { IfSome store (λ s. s.newest + 1 < 2 ^ 32) }
     requires length { IfSome store (λ s. s.length < 2 ^ 32) }
     ensures began { IfOk result (λ p. (st : Setting) (base : BaseView) (before : Cluster) →
-        StartsSaving M.represents machines.items engine (option_map store_view store) next left st base before →
+        StartsSaving M.represents machines.items engine (option_map store_view store)
+        next left st base before →
         IsSavingClusterOf M.represents (going_on st base.numbers base.number) p
         (recovers st base before)) }
     ensures machines { IfOk result (λ p. p.machines.items ≡ machines.items) }

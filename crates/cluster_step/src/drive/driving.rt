@@ -10,7 +10,8 @@ use std::sync::Wait;
 
 /// Makes rounds until the attempt pauses, and says why. Where its end is not saved, it pauses as
 /// soon as nothing is left to do. For want of memory the trace stays where it is. No snapshot is
-/// acknowledged, and no attempt begins: each course has gone on from where the trace was remembered.
+/// acknowledged, and no attempt begins: each course has gone on from where the trace was
+/// remembered.
 pub fn drive<R: Wait, M: SavingMachine>(
     rt: &R,
     trace: &mut Trace<M>,

@@ -80,8 +80,8 @@ pub(crate) fn next_attempt<D: Disk, P: Program>(
         restarts.now.front.items order st o) → HasFailures trace.now st known.was.cluster →
         IfOk result (λ next.
         RestartsFrom P.meaning trace.now next.machines.items placed.now.places.now.run.engine
-        (Some (store_view next.store)) next.order.items lost.now next.lost.items restarts.now.front.items
-        next.front.items st o known.was.events known.was.cluster) }
+        (Some (store_view next.store)) next.order.items lost.now next.lost.items
+        restarts.now.front.items next.front.items st o known.was.events known.was.cluster) }
     ensures refused { IfErr result
         (GoBackErrorCause (IsTrue D.observable)
         (InEachTrace (IsAnyMachineOf P.meaning) trace.now (λ st o events c.

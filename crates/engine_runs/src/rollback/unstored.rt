@@ -110,8 +110,8 @@ fn attempt_at_start<P: Program>(
         HasFailures trace.now st known.was.cluster →
         IfOk result (λ next.
         RestartsFrom P.meaning trace.now next.machines.items placed.now.places.now.run.engine
-        (Some (store_view next.store)) next.order.items lost.now next.lost.items restarts.now.front.items
-        next.front.items st o known.was.events known.was.cluster) }
+        (Some (store_view next.store)) next.order.items lost.now next.lost.items
+        restarts.now.front.items next.front.items st o known.was.events known.was.cluster) }
 {
     let failures = failures_now(alloc, trace)?;
     let missing = missing_restarts(

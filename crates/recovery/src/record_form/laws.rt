@@ -42,7 +42,8 @@ pub fn due_records_are_in_form()
         header.m ≡ length st.graph.edges →
         IsRecordBehind st before c.base.order (snapshot_due c.coordinator) made →
         IsNonDecreasingBy entry_rank made.entries.items →
-        RecordFits made → NumbersFit made → made.number < 4294967295 → first.next + first.left < 33554432 * made.number →
+        RecordFits made → NumbersFit made → made.number < 4294967295 →
+        first.next + first.left < 33554432 * made.number →
         IsBody header made.number (body_bytes made) }
 {}
 

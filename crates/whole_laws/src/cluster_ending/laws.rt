@@ -59,11 +59,14 @@ pub fn quiet_waves_leave_no_task()
 /// message between machines.
 pub fn quiet_waves_end_all()
     ensures watched { (st : Setting) (c : Cluster) (watch : Watch) →
-        IsWhole st c → IsWatched st c watch → HasSeenTheEnd c.coordinator → watch.begun_before ≡ c.coordinator.begun → HasEnded st c }
+        IsWhole st c → IsWatched st c watch → HasSeenTheEnd c.coordinator →
+        watch.begun_before ≡ c.coordinator.begun → HasEnded st c }
     ensures since { (st : Setting) (events : List Event) (old new : Cluster) →
         IsSetting st → IsFollowed st old → AllByRecursion IsNoRecovery events →
         AllByRecursion IsNoBegin events → IsTrace st old events new →
-        2 + old.coordinator.rounds.counting.put_out ≤ new.coordinator.rounds.counting.put_out → HasSeenTheEnd new.coordinator → HasEnded st new }
+        2 + old.coordinator.rounds.counting.put_out ≤
+        new.coordinator.rounds.counting.put_out →
+        HasSeenTheEnd new.coordinator → HasEnded st new }
     ensures no_snapshot { (st : Setting) (c : Cluster) →
         IsFollowed st c → HasSeenTheEnd c.coordinator →
         c.coordinator.begun ≡ st.base → HasEnded st c }

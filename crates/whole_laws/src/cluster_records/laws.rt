@@ -37,10 +37,9 @@ pub fn events_keep_accounts()
         (whole : IsWhole (going_on st base.numbers base.number) (recovers st base c))
         × IsAccounted (going_on st base.numbers base.number) (recovers st base c) whole [] }
     ensures goes_on { (st : Setting) (c : Cluster) (whole : IsWhole st c) (event : Event)
-        (logged : List Logged) →
-        IsSetting st → MayDo st c event → IsNoRecovery event → IsAccounted st c whole logged →
-        (next : IsWhole st (after_event st c event)) × (more : List Logged)
-        × AllByRecursion (λ l. c.coordinator.acknowledged < l.number) more
+        (logged : List Logged) → IsSetting st → MayDo st c event → IsNoRecovery event →
+        IsAccounted st c whole logged → (next : IsWhole st (after_event st c event))
+        × (more : List Logged) × AllByRecursion (λ l. c.coordinator.acknowledged < l.number) more
         × IsAccounted st (after_event st c event) next (logged ++ more) }
 {}
 
@@ -75,11 +74,11 @@ pub fn records_make_cuts()
         IsSetting st → IsAccounted st c whole logged → RecordIsDue st c.coordinator →
         (c.coordinator.begun ≡ suc c.coordinator.acknowledged)
         × IsGoodSnapshot st logged (snapshot_due c.coordinator)
-        × IsPermutation (entries_in_all st (acknowledges st c.coordinator).snapshots) (cut_of whole.consistent.count whole.consistent.order) }
+        × IsPermutation (entries_in_all st (acknowledges st c.coordinator).snapshots)
+        (cut_of whole.consistent.count whole.consistent.order) }
     ensures begins { (st : Setting) (c : Cluster) (whole : IsWhole st c) (logged : List Logged)
-        (one other : Snapshot) (v : ℕ) →
-        IsAccounted st c whole logged → IsGoodSnapshot st logged one →
-        IsGoodSnapshot st logged other → one.number ≤ other.number →
+        (one other : Snapshot) (v : ℕ) → IsAccounted st c whole logged →
+        IsGoodSnapshot st logged one → IsGoodSnapshot st logged other → one.number ≤ other.number →
         Begins (updates_at v (entries_to one.number logged))
         (updates_at v (entries_to other.number logged)) }
 {}
@@ -118,8 +117,8 @@ pub fn recoveries_go_back()
     ensures { (st : Setting) (c : Cluster) (whole : IsWhole st c)
         (logged : List Logged) (base : BaseView) →
         IsSetting st → IsAccounted st c whole logged → IsBased st c logged → GoesBackTo st c base →
-        (base.number ≡ c.coordinator.acknowledged)
-        × (base.order ≡ (c.base.order ++ entries_to c.coordinator.acknowledged logged) ++ restarts (failures_in st c) c.next)
+        (base.number ≡ c.coordinator.acknowledged) × (base.order ≡ (c.base.order ++
+        entries_to c.coordinator.acknowledged logged) ++ restarts (failures_in st c) c.next)
         × IsBase st base c.next }
 {}
 
@@ -210,5 +209,6 @@ pub fn snapshots_are_few()
     ensures { (st : Setting) (base : BaseView) (c : Cluster) (events : List Event) (new : Cluster) →
         IsSetting st → AreColoured st st.engine → 0 < half_window st →
         IsTrace (going_on st base.numbers base.number) (recovers st base c) events new →
-        snapshots_in_all events + under_way new ≤ c.left / half_window st + unasked_in (going_on st base.numbers base.number) (recovers st base c) events }
+        snapshots_in_all events + under_way new ≤ c.left / half_window st +
+        unasked_in (going_on st base.numbers base.number) (recovers st base c) events }
 {}
