@@ -14,10 +14,12 @@ use crate::trouble::Trouble;
 use cluster_step::drive::{Pause, drive};
 use cluster_step::trace::{Event, Local, SavingMachine, Trace};
 use gl_base::{Base, FailureAt, MachineNo, Refused};
+use node_threads::run_nodes;
 use recovery::restarts::{base_behind, count_failed};
 use scenario_lines::{Line, Page, is_remark};
 use std::alloc::Global;
 use std::sync::Wait;
+use std::thread::Threads;
 use update_api::Program;
 use wire_board::play_on_board;
 
@@ -37,21 +39,61 @@ struct Call<'a, P: Program> {
     pause: Option<Pause>,
 }
 
-/// Drives a call with these failures to its end, and writes each line as it was seen then.
-pub fn play_call<R: Wait + AllocGlobal, P: Program>(
+/// Drives a call with these failures to its end, and writes each line as it was seen then. Where
+/// the machines have threads, they go on there to the first pause.
+pub fn play_call<R: Threads + Wait + AllocGlobal + Sync, P: Program + Send + Sync>(
     rt: &R,
     beginning: &Beginning<'_, P>,
     failures: &[FailureAt],
+    has_threads: bool,
     lines: &[&str],
     page: &mut Page,
 ) -> Result<(), Trouble> {
-    let mut call = opened_call(rt.alloc(), beginning, failures)?;
+    let call = opened_call(rt.alloc(), beginning, failures)?;
+    let mut call = if has_threads {
+        on_threads(rt, call)?
+    } else {
+        call
+    };
     if let Err(trouble) = go_on(rt, &mut call) {
         add_trouble(trouble, page);
     }
     look_on(rt.alloc(), &call, lines, page);
     drop(call);
     Ok(())
+}
+
+/// Runs the machines of the call on threads to the first pause.
+fn on_threads<'a, R: Threads + Wait + AllocGlobal + Sync, P: Program + Send + Sync>(
+    rt: &R,
+    call: Call<'a, P>,
+) -> Result<Call<'a, P>, Trouble> {
+    let Call {
+        beginning,
+        trace,
+        kept,
+        recoveries,
+        pause,
+    } = call;
+    let left = trace.left();
+    match run_nodes(rt, rt.alloc(), trace) {
+        Ok(trace) if trace.left() < left => Ok(Call {
+            beginning,
+            trace,
+            kept,
+            recoveries,
+            pause,
+        }),
+        Ok(trace) => {
+            drop(trace);
+            drop(kept);
+            Err(Trouble::Because("no thread makes an update"))
+        }
+        Err(fault) => {
+            drop(kept);
+            Err(fault.into())
+        }
+    }
 }
 
 /// Opens the call with a store without snapshots.

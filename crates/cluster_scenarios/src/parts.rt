@@ -10,10 +10,14 @@ use graph_programs::selection::JobProgram;
 use scenario_lines::{Page, is_given, is_remark, parts_of};
 use std::rt::Files;
 use std::sync::Wait;
+use std::thread::Threads;
 use std::{fs, io};
 
 /// Plays the scenarios of a file, and prints each of its lines as it was seen.
-pub fn play_file<R: Files + Print + AllocGlobal + Wait>(rt: &R, file: &str) -> io::Result<()> {
+pub fn play_file<R: Files + Print + AllocGlobal + Threads + Wait + Sync>(
+    rt: &R,
+    file: &str,
+) -> io::Result<()> {
     let text = fs::read_to_string(rt, file)?;
     let parts = parts_of(rt.alloc(), text.as_str())?;
     let mut page = Page::new(rt.alloc());
@@ -23,7 +27,11 @@ pub fn play_file<R: Files + Print + AllocGlobal + Wait>(rt: &R, file: &str) -> i
 
 /// Plays the parts in turn, each behind what was given last. What is given is played too, as a
 /// scenario of its own.
-fn play_parts<R: AllocGlobal + Wait>(rt: &R, parts: &[Vec<&str>], page: &mut Page) {
+fn play_parts<R: AllocGlobal + Threads + Wait + Sync>(
+    rt: &R,
+    parts: &[Vec<&str>],
+    page: &mut Page,
+) {
     let mut last = 0;
     for (place, part) in parts.iter().enumerate() {
         if is_given(part) {
@@ -36,7 +44,12 @@ fn play_parts<R: AllocGlobal + Wait>(rt: &R, parts: &[Vec<&str>], page: &mut Pag
 }
 
 /// Plays a part behind what is given, whose lines are printed where they stand.
-fn play_part<R: AllocGlobal + Wait>(rt: &R, given: &[&str], part: &[&str], page: &mut Page) {
+fn play_part<R: AllocGlobal + Threads + Wait + Sync>(
+    rt: &R,
+    given: &[&str],
+    part: &[&str],
+    page: &mut Page,
+) {
     let mut plan = Plan::new(rt.alloc());
     let known = take_lines(rt.alloc(), &mut plan, given, &mut Page::new(rt.alloc()));
     let taken = take_lines(rt.alloc(), &mut plan, part, page);
@@ -61,7 +74,7 @@ fn add_remarks(lines: &[&str], page: &mut Page) {
 }
 
 /// Plays the lines on the graph of the plan.
-fn play_plan<R: AllocGlobal + Wait>(
+fn play_plan<R: AllocGlobal + Threads + Wait + Sync>(
     rt: &R,
     plan: &Plan,
     given: &[&str],
@@ -75,7 +88,7 @@ fn play_plan<R: AllocGlobal + Wait>(
 }
 
 /// Plays the lines on a cluster of the plan's program.
-fn play_on<R: AllocGlobal + Wait>(
+fn play_on<R: AllocGlobal + Threads + Wait + Sync>(
     rt: &R,
     graph: &Graph,
     plan: &Plan,
@@ -88,7 +101,14 @@ fn play_on<R: AllocGlobal + Wait>(
     };
     let beginning = beginning_of(rt.alloc(), graph, program, plan)?;
     let outcome = if plan.is_call {
-        play_call(rt, &beginning, &plan.failures, lines, page)
+        play_call(
+            rt,
+            &beginning,
+            &plan.failures,
+            plan.has_threads,
+            lines,
+            page,
+        )
     } else {
         play_events(rt.alloc(), &beginning, given, lines, page)
     };

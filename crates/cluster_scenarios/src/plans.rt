@@ -29,6 +29,8 @@ pub struct Plan {
     pub is_call: bool,
     /// Whether a call begins on a board.
     pub is_on_board: bool,
+    /// Whether the machines of the call go on threads to the first pause.
+    pub has_threads: bool,
 }
 
 /// What a line says of a cluster.
@@ -54,10 +56,11 @@ enum Part {
     Failures,
     Driven,
     Board,
+    Threads,
 }
 
 /// Each of them with its word.
-static PARTS: [(&str, Part); 21] = [
+static PARTS: [(&str, Part); 22] = [
     ("given", Part::Heading),
     ("scenario", Part::Heading),
     ("vertices", Part::Vertices),
@@ -79,6 +82,7 @@ static PARTS: [(&str, Part); 21] = [
     ("failures", Part::Failures),
     ("driven", Part::Driven),
     ("board", Part::Board),
+    ("threads", Part::Threads),
 ];
 
 /// Takes what the first lines say of the cluster, writes them as they were taken, and returns how
@@ -126,6 +130,7 @@ impl Plan {
             failures: Vec::new(alloc),
             is_call: false,
             is_on_board: false,
+            has_threads: false,
         }
     }
 
@@ -168,6 +173,7 @@ impl Plan {
             Part::Tickets => self.tickets = number,
             Part::Driven => self.is_call = true,
             Part::Board => self.is_on_board = true,
+            Part::Threads => self.has_threads = true,
             _ => self.run(Algorithm::Components, 0),
         }
     }
