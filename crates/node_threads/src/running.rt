@@ -1,7 +1,6 @@
 //! A stretch of a run, with the machines on threads.
 ghost use Rattle.std.specs.Prelude.{◌≡◌, ◌+◌, ◌*◌, ◌^◌, ◌<◌, ◌≤◌, ℕ, suc, List, [], length, vec_capacity, IfOk, OnOk};
-ghost use Rattle.cluster_step.specs.trace.Later.{IsLaterInAttempt};
-ghost use Rattle.cluster_step.specs.trace.Traces.{IsSameAttempt};
+ghost use Rattle.cluster_step.specs.trace.Traces.{IsSameAttempt, TraceGoesOn};
 ghost use Rattle.link_tables.specs.Seats.{Rests};
 ghost use Rattle.node_threads.specs.Nodes.{AllDown, AllFrom, FitsBoard, IsAtBoard, LeadsBoard};
 ghost use Rattle.wire_board.specs.Attempts.{AreNumbered, IsBoardOf, resting};
@@ -38,7 +37,7 @@ pub fn run_nodes<R: Threads + Wait + Sync, M: EagerMachine + Send + Sync>(
     trace: Trace<M>,
 ) -> Result<Trace<M>, NoMemory>
     ensures same { IfOk result (λ t. IsSameAttempt (record trace { since = t.now }) t) }
-    ensures later { IfOk result (λ t. IsLaterInAttempt M.represents trace t) }
+    ensures goes_on { IfOk result (λ t. TraceGoesOn M.represents trace t) }
 {
     if trace.is_stopped() || !trace.are_all_awake() || trace.machines() >= TOO_MANY {
         let mut trace = trace;

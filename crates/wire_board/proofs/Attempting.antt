@@ -6,12 +6,13 @@ use mathlib.Core.Option.{some, some-injective, some-ne-none}
 use lib.ListN.{get_elem?}
 use Rattle.cluster_laws.specs.cluster_model.Events as law
 use Rattle.cluster_step.specs.clusters.Inner.Writing.{HaveLinks}
-use Rattle.cluster_step.specs.trace.Later.{apart_now}
-use Rattle.cluster_step.specs.trace.Traces.{IsTraceNow}
+use Rattle.cluster_step.specs.trace.Later.{apart_now, with_cluster}
+use Rattle.cluster_step.specs.trace.Traces.{IsTraceNow, TraceGoesOn}
 use Rattle.link_tables.specs.Rule.{AllHere, Ended}
 use Rattle.link_tables.specs.Seats.{Rests, Sat, view}
 use Rattle.wire_board.proofs.Closing.{length_nodes}
 use Rattle.wire_board.proofs.Gathering.{closes, in_range, threads_go}
+use Rattle.wire_board.proofs.Goings.{passing_others}
 use Rattle.wire_board.specs.Attempts.{AllFrom, AreAllGathered, AreAwake, AreNumbered, FailureAt, IsLaterInAttempt, IsBoardOf, IsSeatOf, Lead, Leading, LinkView, Machine, Member, Node, Parts, Seated, Setting, StandsForSaving, TraceView, at_rest, numbered_members, resting}
 use Rattle.wire_board.specs.Closings.{ArePutTogether, gathered}
 use Rattle.wire_board.specs.Led.{HasBeenLed, link_between, number_of}
@@ -153,17 +154,25 @@ all_map P Q each k (x ∷ xs) all = (each k x all.0, all_map P Q each (suc k) xs
 
 -- ---- the trace
 
--- what is later than the trace as its cluster went out is later than the trace
-pub later_apart : {M : Type 0} (represents : Setting → ℕ → Machine → M → Type 0) (v w : TraceView M) → IsLaterInAttempt represents (apart_now v) w → IsLaterInAttempt represents v w
-later_apart represents v w later st o events c is = later st o events c (record { setting = is.setting; trace = is.trace; code = is.code; done = is.done })
+-- what has come of the trace as its cluster went out has come of the trace
+goes_apart : {M : Type 0} (represents : Setting → ℕ → Machine → M → Type 0) (v w : TraceView M) → TraceGoesOn represents (apart_now v) w → TraceGoesOn represents v w
+goes_apart represents v w goes st o events c is = goes st o events c (record { setting = is.setting; trace = is.trace; code = is.code; done = is.done })
 
-pub later_ok : {M E : Type 0} (represents : Setting → ℕ → Machine → M → Type 0) (v w : TraceView M) (r : Result (TraceView M) E) → w ≡ apart_now v → IfOk r (λ t. IsLaterInAttempt represents w t) → IfOk r (λ t. IsLaterInAttempt represents v t)
-later_ok {M} represents v w (Ok t) is later = later_apart represents v t (subst (λ (x : TraceView M). IsLaterInAttempt represents x t) is later)
-later_ok represents v w (Err e) is later = tt
+pub goes_ok : {M E : Type 0} (represents : Setting → ℕ → Machine → M → Type 0) (v w : TraceView M) (r : Result (TraceView M) E) → w ≡ apart_now v → IfOk r (λ t. TraceGoesOn represents w t) → IfOk r (λ t. TraceGoesOn represents v t)
+goes_ok {M} represents v w (Ok t) is goes = goes_apart represents v t (subst (λ (x : TraceView M). TraceGoesOn represents x t) is goes)
+goes_ok represents v w (Err e) is goes = tt
+
+-- it comes back, and remembers where it is
+pub goes_back_in : {M : Type 0} (represents : Setting → ℕ → Machine → M → Type 0) (v w : TraceView M) (q : Parts M) → w ≡ with_cluster v q → TraceGoesOn represents v (record v { now = q }) → TraceGoesOn represents v w
+goes_back_in {M} represents v w q is goes =
+    subst (λ (x : TraceView M). TraceGoesOn represents v x) (sym is)
+    (λ st o events c at.
+    let one = goes st o events c at in
+    (one.0, one.1, one.2, record { setting = one.3.setting; trace = one.3.trace; code = one.3.code; done = one.3.done }))
 
 -- nothing has happened
-pub later_nowhere : {M : Type 0} (represents : Setting → ℕ → Machine → M → Type 0) (v w : TraceView M) → w ≡ record v { since = v.now } → IsLaterInAttempt represents v w
-later_nowhere {M} represents v w is st o events c now = (
+pub goes_nowhere : {M : Type 0} (represents : Setting → ℕ → Machine → M → Type 0) (v w : TraceView M) → w ≡ record v { since = v.now } → TraceGoesOn represents v w
+goes_nowhere {M} represents v w is st o events c now = (
   [],
   c,
   tt,
@@ -244,8 +253,11 @@ module _ {M : Type 0} (represents : Setting → ℕ → Machine → M → Type 0
         runs = runs;
       }
 
+      pub goes_on : TraceGoesOn represents v (record v { now = q })
+      goes_on = threads_go represents v n made.first lead members links next left q made.opens (all_gathered (suc (length v.now.machines.items)) n lead members lead_last all_count are) ended_so put_together
+
       pub later_on : IsLaterInAttempt represents v (record v { now = q })
-      later_on = threads_go represents v n made.first lead members links next left q made.opens (all_gathered (suc (length v.now.machines.items)) n lead members lead_last all_count are) ended_so put_together
+      later_on st o events c is = let one = goes_on st o events c is in (one.0, one.1, passing_others one.0 one.2, one.3)
 
       pub stands_on : StandsForSaving represents q
       stands_on =

@@ -8,24 +8,26 @@ use Rattle.gl_base.specs.declared.numbers.Vertex.{Vertex}
 use Rattle.gl_base.specs.declared.scopes.ScopeId.{ScopeId}
 use Rattle.cluster_step.proofs.trace.AtOnceGoing.{follow_at_once}
 use Rattle.cluster_laws.proofs.cluster_core.Basics.{set_at-other, set_at-same}
+use Rattle.cluster_laws.specs.cluster_core.Effects.{next_scope}
 use Rattle.cluster_laws.specs.cluster_core.Ranges.{set_at}
 use Rattle.cluster_laws.specs.cluster_model.Clusters.{with_machine}
 use Rattle.cluster_laws.specs.cluster_model.Events as law
 use Rattle.cluster_laws.specs.cluster_model.Machines.{completed}
 use Rattle.cluster_laws.proofs.interior_scopes.Walking.{set_at-twice}
-use Rattle.cluster_step.proofs.clusters.AtOnceRuns.{at_once_trace, no_recoveries}
+use Rattle.cluster_step.proofs.clusters.AtOnceRuns.{at_once_trace}
 use Rattle.cluster_step.proofs.clusters.Goings.{going_trace}
 use Rattle.cluster_step.proofs.clusters.Making.{IsInTurn, does_so, event_of, law_may, left_behind, machine_here, machines_set, many_set, next_behind, runs_set, still_runs}
-use Rattle.cluster_step.specs.clusters.AtOnce.{events_at_once}
+use Rattle.cluster_step.specs.clusters.AtOnce.{events_at_once, locks_at_once}
 use Rattle.cluster_step.specs.clusters.Clusters.{IsGoing}
+use Rattle.cluster_step.specs.trace.Traces.{IsPassing}
 use Rattle.coordinator.specs.machine_api.AtOnce.{AreDone, deeds_at_once}
 use Rattle.coordinator.specs.machine_api.Promises.{Admit, CanUpdate, Deed, Grant, Mark, MayBeDone, Section, does}
 use Rattle.coordinator.specs.machine_api.Promises as deed
 use Rattle.whole_laws.specs.cluster_whole.Whole.{IsNoRecovery}
 use Rattle.call_laws.specs.whole_calls.Following.{FollowJob, has_reached, reaches}
-use Rattle.wire_board.proofs.Goings.{traces_append, done_stays, follows_append, others_append}
+use Rattle.wire_board.proofs.Goings.{done_stays, follows_append, passing_append, passing_others, traces_append}
 use Rattle.wire_board.specs.Freeing.{IsFree}
-use Rattle.wire_board.specs.Going.{Cluster, FailureAt, GoesOn, IsSavingClusterOf, IsSnapSetting, Machine, Parts, Setting}
+use Rattle.wire_board.specs.Going.{ArePassing, Cluster, FailureAt, GoesOn, IsSavingClusterOf, IsSnapSetting, Machine, Parts, Setting}
 use Rattle.wire_board.specs.Standings.{CanBeginAtOnce, WorksTo, HasComeTo, IsOwn, Member, Standing, StandsOwing, at_rest, owing, owing_at_once}
 
 own_turn : (c : Cluster) (d : Deed) → IsOwn d → IsInTurn c d
@@ -43,16 +45,26 @@ own_draws c (deed.Update s ticket) own m a = absurd own
 own_draws c (Mark s) own m a = refl
 own_draws c Section own m a = refl
 
-own_other : (a : ℕ) (d : Deed) → IsOwn d → IsNoRecovery (event_of a d)
-own_other a (Admit v) own = λ base is. cc
-own_other a (Grant x) own = λ base is. cc
-own_other a (deed.Update s ticket) own = absurd own
-own_other a (Mark s) own = λ base is. cc
-own_other a Section own = λ base is. cc
+own_passes : (a : ℕ) (d : Deed) → IsOwn d → IsPassing (event_of a d)
+own_passes a (Admit v) own = (λ is. cc, λ base is. cc)
+own_passes a (Grant x) own = (λ is. cc, λ base is. cc)
+own_passes a (deed.Update s ticket) own = absurd own
+own_passes a (Mark s) own = (λ is. cc, λ base is. cc)
+own_passes a Section own = (λ is. cc, λ base is. cc)
+
+all_own_pass : (a : ℕ) (deeds : List Deed) → AllByRecursion IsOwn deeds → ArePassing (map (event_of a) deeds)
+all_own_pass a [] own = tt
+all_own_pass a (d ∷ deeds) own = (own_passes a d own.0, all_own_pass a deeds own.1)
 
 own_others : (a : ℕ) (deeds : List Deed) → AllByRecursion IsOwn deeds → AllByRecursion IsNoRecovery (map (event_of a) deeds)
-own_others a [] own = tt
-own_others a (d ∷ deeds) own = (own_other a d own.0, own_others a deeds own.1)
+own_others a deeds own = passing_others (map (event_of a) deeds) (all_own_pass a deeds own)
+
+grants_pass : (a : ℕ) (xs : List ℕ) (s : ScopeId) → ArePassing (map (law.Grant a) xs ++ law.Update s ∷ [])
+grants_pass a [] s = ((λ is. cc, λ base is. cc), tt)
+grants_pass a (x ∷ xs) s = ((λ is. cc, λ base is. cc), grants_pass a xs s)
+
+at_once_passes : (st : Setting) (a v : ℕ) (m : Machine) → ArePassing (events_at_once st a v m)
+at_once_passes st a v m = ((λ is. cc, λ base is. cc), grants_pass a (locks_at_once st v a) (next_scope a m.part))
 
 own_setting : (st : Setting) (a : ℕ) (d : Deed) → IsOwn d → law.setting_after st (event_of a d) ≡ st
 own_setting st a (Admit v) own = refl
@@ -175,7 +187,7 @@ module _ {M : Type 0} (represents : Setting → ℕ → Machine → M → Type 0
       let others : AllByRecursion IsNoRecovery events = own_others a to.deeds to.own in
       record {
         events = events;
-        others = others;
+        passing = all_own_pass a to.deeds to.own;
         later = later;
         trace = trace;
         follows = λ counts. own_follows st failures a to.deeds to.own c;
@@ -214,11 +226,11 @@ module _ {M : Type 0} (represents : Setting → ℕ → Machine → M → Type 0
         in
         let last : law.IsTrace st led (law.Update s ∷ []) later = ((runs st c setting of, law_may st led a awake_there d (left, refl) may_there), sym step) in
         let all : law.IsTrace st c (events ++ law.Update s ∷ []) later = traces_append events (law.Update s ∷ []) others st c led later trace last in
-        let other : IsNoRecovery (law.Update s) = λ base is. cc in
-        let all_others : AllByRecursion IsNoRecovery (events ++ law.Update s ∷ []) = others_append events (law.Update s ∷ []) others (other, tt) in
+        let passes : IsPassing (law.Update s) = (λ is. cc, λ base is. cc) in
+        let passing : ArePassing (events ++ law.Update s ∷ []) = passing_append events (law.Update s ∷ []) (all_own_pass a to.deeds to.own) (passes, tt) in
         record {
           events = events ++ law.Update s ∷ [];
-          others = all_others;
+          passing = passing;
           later = later;
           trace = all;
           follows = λ counts. follows_append failures events (law.Update s ∷ []) others st c led trace (own_follows st failures a to.deeds to.own c) (
@@ -229,7 +241,7 @@ module _ {M : Type 0} (represents : Setting → ℕ → Machine → M → Type 0
           code = machine_put (StandsOwing represents) st setting p c of a (low st c setting of) (owing z s p.next) made
               (record { before = to.after; here = to.here; done = subst (λ (n : ℕ). AreDone st a (deed.Update s n ∷ []) to.after made) of.next (may, refl) })
               (still_runs st a d to.after ∙ still) (suc p.next) (pred p.left) (suc c.next) (pred c.left) (ap suc of.next) (ap pred of.left) (still_few p.next p.left some of.few)
-              (going_trace st setting (events ++ law.Update s ∷ []) all_others c later of.going all);
+              (going_trace st setting (events ++ law.Update s ∷ []) (passing_others (events ++ law.Update s ∷ []) passing) c later of.going all);
         }
 
     pub begins_at_once_goes : (v : Vertex) → CanBeginAtOnce represents z.machine v.0
@@ -255,12 +267,12 @@ module _ {M : Type 0} (represents : Setting → ℕ → Machine → M → Type 0
         let last : law.IsTrace st led more later =
         subst (law.IsTrace st led more) same (at_once_trace st led a (runs st c setting of) (low st c setting of) left awake_there v.0 made done_there)
         in
-        let more_others : AllByRecursion IsNoRecovery more = no_recoveries st a v.0 (led.machine a) in
+        let more_pass : ArePassing more = at_once_passes st a v.0 (led.machine a) in
         let all : law.IsTrace st c (events ++ more) later = traces_append events more others st c led later trace last in
-        let all_others : AllByRecursion IsNoRecovery (events ++ more) = others_append events more others more_others in
+        let passing : ArePassing (events ++ more) = passing_append events more (all_own_pass a to.deeds to.own) more_pass in
         record {
           events = events ++ more;
-          others = all_others;
+          passing = passing;
           later = later;
           trace = all;
           follows = λ counts. follows_append failures events more others st c led trace (own_follows st failures a to.deeds to.own c)
@@ -269,5 +281,5 @@ module _ {M : Type 0} (represents : Setting → ℕ → Machine → M → Type 0
           code = machine_put (StandsOwing represents) st setting p c of a (low st c setting of) (owing_at_once z v p.next) made
               (record { before = to.after; here = to.here; done = subst (λ (n : ℕ). AreDone st a (deeds_at_once st a v.0 n to.after) to.after made) of.next can_now.1 })
               (done_runs st a (deeds_at_once st a v.0 c.next to.after) to.after made can_now.1 ∙ still) (suc p.next) (pred p.left) (suc c.next) (pred c.left) (ap suc of.next) (ap pred of.left)
-              (still_few p.next p.left some of.few) (going_trace st setting (events ++ more) all_others c later of.going all);
+              (still_few p.next p.left some of.few) (going_trace st setting (events ++ more) (passing_others (events ++ more) passing) c later of.going all);
         }

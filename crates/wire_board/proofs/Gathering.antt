@@ -1,7 +1,6 @@
 -- The parts of a board that is closed stand for a later cluster of the same attempt.
 use Rattle.std.proofs.Common.{List, [], ap, arith, get_or, length, map, refl, subst, suc, sym, zero, ◌++◌, ◌+◌, ◌<◌, ◌^◌, ◌∙◌, ◌∷◌, ◌≡◌, ℕ}
 use Rattle.std.proofs.lemmas.List.{length-map}
-use Rattle.std.specs.List.{AllByRecursion}
 use Rattle.std.specs.Prelude.{slice_index_or}
 use mathlib.Core.Option.{some, some-injective, some-ne-none}
 use lib.ListN.{get_elem?}
@@ -16,17 +15,17 @@ use Rattle.cluster_step.proofs.trace.Going.{behind_append, ends_at, setting_now}
 use Rattle.cluster_step.specs.clusters.Clusters.{AreCalls, AreReports, IsCoordinatorOf, messages_on}
 use Rattle.cluster_step.specs.clusters.Inner.Writing.{HaveLinks}
 use Rattle.cluster_step.specs.clusters.Links.{message_read}
-use Rattle.cluster_step.specs.trace.Traces.{first_cluster, first_setting, newest_setting}
+use Rattle.cluster_step.specs.trace.Traces.{TraceGoesOn, first_cluster, first_setting, newest_setting}
 use Rattle.coordinator.specs.coord_core.Coordinators.{CoordinatorView}
 use Rattle.coordinator.specs.machine_api.Promises.{MessageView}
 use Rattle.link_tables.specs.Rule.{Ended}
 use Rattle.whole_laws.proofs.cluster_ending.Traces.{setting_same}
-use Rattle.whole_laws.specs.cluster_whole.Whole.{IsNoRecovery, setting_behind}
+use Rattle.whole_laws.specs.cluster_whole.Whole.{setting_behind}
 use Rattle.wire_board.proofs.Closing.{stood_so}
-use Rattle.wire_board.proofs.Goings.{done_stays}
+use Rattle.wire_board.proofs.Goings.{done_stays, passing_others}
 use Rattle.wire_board.proofs.Leads.{lead_is}
-use Rattle.wire_board.specs.Closings.{AreAllGathered, ArePutTogether, TraceView, IsLaterInAttempt, gathered}
-use Rattle.wire_board.specs.Going.{Cluster, GoesTo, IsSavingClusterOf, IsSnapSetting, Machine, Parts, Setting}
+use Rattle.wire_board.specs.Closings.{AreAllGathered, ArePutTogether, TraceView, gathered}
+use Rattle.wire_board.specs.Going.{ArePassing, Cluster, GoesTo, IsSavingClusterOf, IsSnapSetting, Machine, Parts, Setting}
 use Rattle.wire_board.specs.Led.{HoldParts, HasBeenLed, IsMachineAt, Lead, Leading, LinkView, Node, Seated, Standing, StandsOwing, link_between, number_of}
 use Rattle.wire_board.specs.Openings.{AreOpening, standing_parts}
 use Rattle.wire_board.specs.Standings.{Member, at_rest}
@@ -41,9 +40,9 @@ read_there [] i a d at = absurd (some-ne-none a (sym at))
 read_there (x ∷ xs) zero a d at = some-injective x a at
 read_there (x ∷ xs) (suc i) a d at = read_there xs i a d at
 
-passing_setting : (events : List law.Event) → AllByRecursion IsNoRecovery events → (st : Setting) → setting_behind st events ≡ st
+passing_setting : (events : List law.Event) → ArePassing events → (st : Setting) → setting_behind st events ≡ st
 passing_setting [] all st = refl
-passing_setting (e ∷ events) all st = ap (λ (s : Setting). setting_behind s events) (setting_same st e all.0) ∙ passing_setting events all.1 st
+passing_setting (e ∷ events) all st = ap (λ (s : Setting). setting_behind s events) (setting_same st e all.0.1) ∙ passing_setting events all.1 st
 
 -- ---- the parts stand for the cluster to which the board has been led
 
@@ -105,17 +104,18 @@ module _ {M : Type 0} (represents : Setting → ℕ → Machine → M → Type 0
           in
           subst (represents st a (c.machine a)) (sym read) here
 
--- What threads have done between a board that was made of a cluster and its closing is a stretch of the same attempt.
+-- What threads have done between a board that was made of a cluster and its closing is a stretch of the same attempt, in which no snapshot is
+-- acknowledged.
 pub threads_go : {M : Type 0} (represents : Setting → ℕ → Machine → M → Type 0) (v : TraceView M) (n : ℕ) (first : List LinkView) (lead : Leading) (members : List (Member M)) (links : List LinkView) (next left : ℕ) (q : Parts M)
     → AreOpening n v.now first → AreAllGathered n lead members → Ended number_of (HasBeenLed represents v.failures v.done (standing_parts n v.now) n) (gathered lead members) links next left
-    → ArePutTogether n lead members links next left q → IsLaterInAttempt represents v (record v { now = q })
+    → ArePutTogether n lead members links next left q → TraceGoesOn represents v (record v { now = q })
 threads_go {M} represents v n first lead members links next left q opening all ended to st o events c is =
     let now : Setting = newest_setting st o events in
     let snaps : IsSnapSetting now = setting_now st o events is.setting in
     let stood = stood_so represents v.failures v.done n v.now first opening now c is.code in
     let goes : GoesTo (StandsOwing represents) v.failures v.done ended.led.now now c = ended.led.goes now c snaps stood in
     let later : List law.Event = events ++ goes.events in
-    let still : newest_setting st o later ≡ now = behind_append events goes.events (first_setting st o) ∙ passing_setting goes.events goes.others now in
+    let still : newest_setting st o later ≡ now = behind_append events goes.events (first_setting st o) ∙ passing_setting goes.events goes.passing now in
     let machines : now.machines ≡ st.machines = ap (λ (s : Setting). s.machines) (behind_since events (first_setting st o)) in
     let follows : FollowJob now v.failures c goes.events = goes.follows (λ a low. is.done a (subst (λ (k : ℕ). a < k) machines low)) in
     let trace : IsTraceOfCall st v.failures o.kept o.resumed o.base o.first later goes.later =
@@ -130,12 +130,12 @@ threads_go {M} represents v n first lead members links next left q opening all e
     in (
       goes.events,
       goes.later,
-      goes.others,
+      goes.passing,
       record {
         setting = is.setting;
         trace = trace;
         code = subst (λ (s : Setting). IsSavingClusterOf represents s q goes.later) (sym still)
             (closes represents n ended.led.now ended.parts links next left ended.led.held lead members all ended.are q to now snaps goes.later goes.code);
-        done = λ a low. done_stays goes.events goes.others now c goes.later goes.trace a ∙ is.done a low;
+        done = λ a low. done_stays goes.events (passing_others goes.events goes.passing) now c goes.later goes.trace a ∙ is.done a low;
       },
     )

@@ -6,11 +6,16 @@ use Rattle.call_laws.proofs.cluster_attempts.Joining.{done_kept}
 use Rattle.whole_laws.proofs.cluster_ending.Traces.{setting_same}
 use Rattle.whole_laws.specs.cluster_whole.Whole.{IsNoRecovery}
 use Rattle.call_laws.specs.whole_calls.Following.{FollowJob}
-use Rattle.wire_board.specs.Going.{Cluster, FailureAt, GoesOn, GoesTo, Machine, Parts, Setting}
+use Rattle.wire_board.specs.Going.{ArePassing, Cluster, FailureAt, GoesOn, GoesTo, Machine, Parts, Setting}
 
-pub others_append : (xs ys : List law.Event) → AllByRecursion IsNoRecovery xs → AllByRecursion IsNoRecovery ys → AllByRecursion IsNoRecovery (xs ++ ys)
-others_append [] ys one other = other
-others_append (x ∷ xs) ys one other = (one.0, others_append xs ys one.1 other)
+-- events that pass begin no attempt
+pub passing_others : (events : List law.Event) → ArePassing events → AllByRecursion IsNoRecovery events
+passing_others [] all = tt
+passing_others (e ∷ events) all = (all.0.1, passing_others events all.1)
+
+pub passing_append : (xs ys : List law.Event) → ArePassing xs → ArePassing ys → ArePassing (xs ++ ys)
+passing_append [] ys one other = other
+passing_append (x ∷ xs) ys one other = (one.0, passing_append xs ys one.1 other)
 
 pub traces_append : (xs ys : List law.Event) → AllByRecursion IsNoRecovery xs → (st : Setting) (a b c : Cluster) → law.IsTrace st a xs b → law.IsTrace st b ys c → law.IsTrace st a (xs ++ ys) c
 traces_append [] ys all st a b c one other = subst (λ (x : Cluster). law.IsTrace st x ys c) one other
@@ -36,18 +41,19 @@ done_stays (e ∷ events) all st a b trace k =
 
 module _ {X : Type 0} (represents : Setting → ℕ → Machine → X → Type 0) (failures : List FailureAt) (done : List ℕ) where
   pub goes_nowhere : (p : Parts X) → GoesOn represents failures done p p
-  goes_nowhere p st c setting of = record { events = []; others = tt; later = c; trace = refl; follows = λ counts. tt; code = of }
+  goes_nowhere p st c setting of = record { events = []; passing = tt; later = c; trace = refl; follows = λ counts. tt; code = of }
 
   pub goes_on_then : (p q r : Parts X) → GoesOn represents failures done p q → GoesOn represents failures done q r → GoesOn represents failures done p r
   goes_on_then p q r one other st c setting of =
       let first : GoesTo represents failures done q st c = one st c setting of in
       let second : GoesTo represents failures done r st first.later = other st first.later setting first.code in
+      let others : AllByRecursion IsNoRecovery first.events = passing_others first.events first.passing in
       record {
         events = first.events ++ second.events;
-        others = others_append first.events second.events first.others second.others;
+        passing = passing_append first.events second.events first.passing second.passing;
         later = second.later;
-        trace = traces_append first.events second.events first.others st c first.later second.later first.trace second.trace;
-        follows = λ counts. follows_append failures first.events second.events first.others st c first.later first.trace (first.follows counts)
-            (second.follows (λ a low. done_stays first.events first.others st c first.later first.trace a ∙ counts a low));
+        trace = traces_append first.events second.events others st c first.later second.later first.trace second.trace;
+        follows = λ counts. follows_append failures first.events second.events others st c first.later first.trace (first.follows counts)
+            (second.follows (λ a low. done_stays first.events others st c first.later first.trace a ∙ counts a low));
         code = second.code;
       }

@@ -8,12 +8,12 @@ use Rattle.cluster_laws.specs.cluster_model.Leading.{Coordinator}
 use Rattle.call_laws.specs.whole_calls.Following.{FollowsJob}
 use Rattle.cluster_step.proofs.clusters.Leading.{may_report}
 use Rattle.cluster_step.proofs.clusters.LinkLemmas.{has_link}
+use Rattle.cluster_step.specs.trace.Traces.{IsPassing}
 use Rattle.coordinator.specs.coord_core.Calls.{HasHandedOver, HasTakenReport, MayLead, MayReport, StaysCoordinator}
 use Rattle.coordinator.specs.coord_core.Coordinators.{CoordinatorView, IsCoordinatorOf}
 use Rattle.coordinator.specs.machine_api.Promises.{MessageView, message_view}
 use Rattle.gl_base.specs.declared.numbers.MachineNo.{MachineNo}
 use Rattle.link_tables.specs.Rule.{Carries, CarriesLink, Learnt}
-use Rattle.whole_laws.specs.cluster_whole.Whole.{IsNoRecovery}
 use mathlib.Core.Option.{some}
 use lib.ListN.{get_elem?}
 use Rattle.atomic_table.proofs.Lists.{at_set}
@@ -92,7 +92,7 @@ module _ {M : Type 0} (represents : Setting → ℕ → Machine → M → Type 0
         (slice_set parts was.number (Lead lead)) links next left (held_lead n led.now parts links next left h lead (number ∙ last) was.number last)
 
     -- it has done something by itself
-    module _ (e : law.Event) (other : IsNoRecovery e) (follows : (st : Setting) (c : Cluster) → FollowsJob st failures c e) (leads : Setting → Coordinator → Coordinator)
+    module _ (e : law.Event) (passes : IsPassing e) (follows : (st : Setting) (c : Cluster) → FollowsJob st failures c e) (leads : Setting → Coordinator → Coordinator)
         (effect : (st : Setting) (c : Cluster) → law.after_event st c e ≡ with_coordinator c (leads st c.coordinator)) where
       pub carries_led : MayLead e was.coordinator → ((st : Setting) (k : Coordinator) → IsCoordinatorOf st was.coordinator k → IsCoordinatorOf st lead.coordinator (leads st k))
           → Carries number_of Led (Lead was) (Lead lead)
@@ -101,7 +101,7 @@ module _ {M : Type 0} (represents : Setting → ℕ → Machine → M → Type 0
           let last : was.number ≡ n = is_last n led.now parts links next left h was.number was at in
           let is : IsLeadOf n led.now (Lead was) = lead_is n led.now parts links next left h was.number was at in
           led_on represents failures done opening n parts links next left led _
-          (led_goes represents failures done led.now h.runs lead.coordinator e other follows leads effect (subst (MayLead e) (sym is.1) may)
+          (led_goes represents failures done led.now h.runs lead.coordinator e passes follows leads effect (subst (MayLead e) (sym is.1) may)
           (subst (λ (c : CoordinatorView). (st : Setting) (k : Coordinator) → IsCoordinatorOf st c k → IsCoordinatorOf st lead.coordinator (leads st k)) (sym is.1) has))
           (slice_set parts was.number (Lead lead)) links next left (held_lead n led.now parts links next left h lead (number ∙ last) was.number last)
 

@@ -23,8 +23,9 @@ use Rattle.coordinator.specs.machine_api.Promises.{MessageView, OfEach}
 use Rattle.whole_laws.specs.cluster_whole.Whole.{IsNoRecovery}
 use Rattle.call_laws.specs.whole_calls.Following.{FollowJob}
 use Rattle.wire_board.proofs.Deeds.{machine_same}
+use Rattle.wire_board.proofs.Goings.{passing_others}
 use Rattle.wire_board.proofs.Putting.{have_put, line_put}
-use Rattle.wire_board.specs.Going.{Cluster, FailureAt, GoesOn, IsSavingClusterOf, IsSnapSetting, Machine, Parts, Setting}
+use Rattle.wire_board.specs.Going.{ArePassing, Cluster, FailureAt, GoesOn, IsSavingClusterOf, IsSnapSetting, Machine, Parts, Setting}
 use Rattle.wire_board.specs.Hearing.{HasHeardAll, HasToldAll, IsHearing, receives_all}
 use Rattle.wire_board.specs.Standings.{Member, Standing, StandsOwing, at_rest}
 
@@ -104,9 +105,12 @@ abbrev pub deliveries : ℕ → ℕ → List Message → List law.Event
 deliveries p a [] = []
 deliveries p a (told ∷ more) = law.Deliver p a ∷ deliveries p a more
 
+deliveries_pass : (p a : ℕ) (told : List Message) → ArePassing (deliveries p a told)
+deliveries_pass p a [] = tt
+deliveries_pass p a (one ∷ told) = ((λ is. cc, λ base is. cc), deliveries_pass p a told)
+
 pub deliveries_others : (p a : ℕ) (told : List Message) → AllByRecursion IsNoRecovery (deliveries p a told)
-deliveries_others p a [] = tt
-deliveries_others p a (one ∷ told) = (λ base is. cc, deliveries_others p a told)
+deliveries_others p a told = passing_others (deliveries p a told) (deliveries_pass p a told)
 
 deliveries_follow : (st : Setting) (failures : List FailureAt) (p a : ℕ) (told : List Message) (c : Cluster) → FollowJob st failures c (deliveries p a told)
 deliveries_follow st failures p a [] c = tt
@@ -169,7 +173,7 @@ hears_goes represents failures done v p a inside_p inside awake going_on y z rea
     let link = has_link v.links (suc st.machines) p a of.links (under p st.machines low_p) (under a st.machines low) in
     record {
       events = deliveries p a told;
-      others = deliveries_others p a told;
+      passing = deliveries_pass p a told;
       later = later;
       trace = trace;
       follows = λ counts. deliveries_follow st failures p a told c;
@@ -187,9 +191,9 @@ abbrev pub sendings : ℕ → ℕ → List Message → List law.Event
 sendings a q [] = []
 sendings a q (told ∷ more) = law.Send a q ∷ sendings a q more
 
-sendings_others : (a q : ℕ) (told : List Message) → AllByRecursion IsNoRecovery (sendings a q told)
-sendings_others a q [] = tt
-sendings_others a q (one ∷ told) = (λ base is. cc, sendings_others a q told)
+sendings_pass : (a q : ℕ) (told : List Message) → ArePassing (sendings a q told)
+sendings_pass a q [] = tt
+sendings_pass a q (one ∷ told) = ((λ is. cc, λ base is. cc), sendings_pass a q told)
 
 sendings_follow : (st : Setting) (failures : List FailureAt) (a q : ℕ) (told : List Message) (c : Cluster) → FollowJob st failures c (sendings a q told)
 sendings_follow st failures a q [] c = tt
@@ -256,13 +260,13 @@ tells_goes represents failures done v a q inside inside_q awake going_on y z rea
     let link = has_link v.links (suc st.machines) a q of.links (under a st.machines low) (under q st.machines low_q) in
     record {
       events = sendings a q words;
-      others = sendings_others a q words;
+      passing = sendings_pass a q words;
       later = later;
       trace = trace;
       follows = λ counts. sendings_follow st failures a q words c;
       code = passage_put (StandsOwing represents) st setting v c of a low (at_rest z) m (record { before = m; here = one.after; done = refl }) refl a q low low_q
           (with_link_between v.links a q l) (have_put v.links a q link l (suc st.machines) of.links) l.messages (line_put v.links a q link l) (c.link a q ++ words) read_all
-          (going_trace st setting (sendings a q words) (sendings_others a q words) c later of.going trace);
+          (going_trace st setting (sendings a q words) (passing_others (sendings a q words) (sendings_pass a q words)) c later of.going trace);
     }
   where
     under : (x n : ℕ) → x < n → x < suc n

@@ -16,8 +16,8 @@ use Rattle.cluster_step.proofs.clusters.Making.{deliver_call_made, deliver_repor
 use Rattle.cluster_step.specs.clusters.Clusters.{AreCalls, AreReports, messages_on}
 use Rattle.cluster_step.specs.clusters.Inner.Writing.{with_link_between}
 use Rattle.cluster_step.specs.clusters.Links.{LinkView, link_between}
+use Rattle.cluster_step.specs.trace.Traces.{IsPassing}
 use Rattle.coordinator.specs.machine_api.Promises.{HasHeard, IsReporting, MessageView, OfEach, StandsStill, message_view}
-use Rattle.whole_laws.specs.cluster_whole.Whole.{IsNoRecovery}
 use Rattle.call_laws.specs.whole_calls.Following.{FollowsJob}
 use Rattle.wire_board.proofs.Putting.{have_put, line_put}
 use Rattle.wire_board.specs.Freeing.{IsFree}
@@ -35,14 +35,14 @@ self_under x = omega arith
 pub record Happens {X : Type 0} (represents : Setting → ℕ → Machine → X → Type 0) (failures : List FailureAt) (done : List ℕ) (new : Parts X) (st : Setting) (c : Cluster) : Type 0 where
   pub event : law.Event
   pub may : law.MayOccur st c event
-  pub other : IsNoRecovery event
+  pub passes : IsPassing event
   pub follows : CountsAre done st c → FollowsJob st failures c event
   pub after : IsSavingClusterOf represents st new (law.after_event st c event)
 
 pub happens : {X : Type 0} (represents : Setting → ℕ → Machine → X → Type 0) (failures : List FailureAt) (done : List ℕ) (new : Parts X) (st : Setting) (c : Cluster)
     → Happens represents failures done new st c → GoesTo represents failures done new st c
 happens represents failures done new st c has =
-    record { events = has.event ∷ []; others = (has.other, tt); later = law.after_event st c has.event; trace = (has.may, refl); follows = λ counts. (has.follows counts, tt); code = has.after }
+    record { events = has.event ∷ []; passing = (has.passes, tt); later = law.after_event st c has.event; trace = (has.may, refl); follows = λ counts. (has.follows counts, tt); code = has.after }
 
 heard_runs : (st : Setting) (a : ℕ) (call : Call) (m : Machine) → (prompt st a (takes_call st a call m)).failed ≡ m.failed
 heard_runs st a (Begin k) m = refl
@@ -81,7 +81,7 @@ module _ {M : Type 0} (represents : Setting → ℕ → Machine → M → Type 0
       let link = has_link v.links (suc st.machines) i j of.links low_i_now low_j_now in
       record {
         events = [];
-        others = tt;
+        passing = tt;
         later = c;
         trace = refl;
         follows = λ counts. tt;
@@ -109,7 +109,7 @@ module _ {M : Type 0} (represents : Setting → ℕ → Machine → M → Type 0
       happens (StandsOwing represents) failures done _ st c (record {
         event = law.DeliverCall a;
         may = may;
-        other = λ base is. cc;
+        passes = (λ is. cc, λ base is. cc);
         follows = λ counts. free st (c.machine a) setting (here st c setting of) (counts a low_st);
         after = subst (λ (k : ℕ). IsSavingClusterOf (StandsOwing represents) st (record v { machines = with_item v.machines a (at_rest z); links = with_link_between v.links k a l }) (law.after_event st c (law.DeliverCall a))) (sym is)
             (deliver_call_made (StandsOwing represents) st setting v c of a low_st (with_link_between v.links st.machines a l) (have_put v.links st.machines a link l (suc st.machines) of.links) may (at_rest z) first.call
@@ -132,7 +132,7 @@ module _ {M : Type 0} (represents : Setting → ℕ → Machine → M → Type 0
       happens (StandsOwing represents) failures done _ st c (record {
         event = law.SendReport a;
         may = may;
-        other = λ base is. cc;
+        passes = (λ is. cc, λ base is. cc);
         follows = λ counts. tt;
         after = subst (λ (k : ℕ). IsSavingClusterOf (StandsOwing represents) st (record v { machines = with_item v.machines a (at_rest z); links = with_link_between v.links a k l }) (law.after_event st c (law.SendReport a))) (sym is)
             (send_report_made (StandsOwing represents) st setting v c of a low_st (with_link_between v.links a st.machines l) (have_put v.links a st.machines link l (suc st.machines) of.links) may (at_rest z) message reporting
@@ -143,7 +143,7 @@ module _ {M : Type 0} (represents : Setting → ℕ → Machine → M → Type 0
 
 module _ {M : Type 0} (represents : Setting → ℕ → Machine → M → Type 0) (failures : List FailureAt) (done : List ℕ) (v : Parts (Standing M)) (going_on : v.stopped ≡ false) (next : CoordinatorView) where
   -- it does something by itself
-  module _ (e : law.Event) (other : IsNoRecovery e) (follows : (st : Setting) (c : Cluster) → FollowsJob st failures c e) (leads : Setting → Coordinator → Coordinator)
+  module _ (e : law.Event) (passes : IsPassing e) (follows : (st : Setting) (c : Cluster) → FollowsJob st failures c e) (leads : Setting → Coordinator → Coordinator)
       (effect : (st : Setting) (c : Cluster) → law.after_event st c e ≡ with_coordinator c (leads st c.coordinator)) where
     pub led_goes : MayLead e v.coordinator → ((st : Setting) (k : Coordinator) → IsCoordinatorOf st v.coordinator k → IsCoordinatorOf st next (leads st k))
         → GoesOn (StandsOwing represents) failures done v (record v { coordinator = next })
@@ -152,9 +152,9 @@ module _ {M : Type 0} (represents : Setting → ℕ → Machine → M → Type 0
         happens (StandsOwing represents) failures done (record v { coordinator = next }) st c (record {
           event = e;
           may = may_now;
-          other = other;
+          passes = passes;
           follows = λ counts. follows st c;
-          after = led_made (StandsOwing represents) st setting v c of e may_now other next (leads st c.coordinator) (has st c.coordinator of.coordinator) (effect st c);
+          after = led_made (StandsOwing represents) st setting v c of e may_now passes.1 next (leads st c.coordinator) (has st c.coordinator of.coordinator) (effect st c);
         })
 
   -- it is what it was, with other room on a link
@@ -165,7 +165,7 @@ module _ {M : Type 0} (represents : Setting → ℕ → Machine → M → Type 0
       let link = has_link v.links (suc st.machines) i j of.links (subst (λ (k : ℕ). i < suc k) is low_i) (subst (λ (k : ℕ). j < suc k) is low_j) in
       record {
         events = [];
-        others = tt;
+        passing = tt;
         later = c;
         trace = refl;
         follows = λ counts. tt;
@@ -176,7 +176,7 @@ module _ {M : Type 0} (represents : Setting → ℕ → Machine → M → Type 0
   pub stays_goes : StaysCoordinator v.coordinator next → GoesOn (StandsOwing represents) failures done v (record v { coordinator = next })
   stays_goes stays st c setting of = record {
     events = [];
-    others = tt;
+    passing = tt;
     later = c;
     trace = refl;
     follows = λ counts. tt;
@@ -197,7 +197,7 @@ module _ {M : Type 0} (represents : Setting → ℕ → Machine → M → Type 0
         happens (StandsOwing represents) failures done _ st c (record {
           event = law.SendCall a;
           may = may;
-          other = λ base is. cc;
+          passes = (λ is. cc, λ base is. cc);
           follows = λ counts. tt;
           after = subst (λ (k : ℕ). IsSavingClusterOf (StandsOwing represents) st (record v { links = with_link_between v.links k a l; coordinator = next }) (law.after_event st c (law.SendCall a))) (sym is)
               (send_call_made (StandsOwing represents) st setting v c of a low_st (with_link_between v.links st.machines a l) (have_put v.links st.machines a link l (suc st.machines) of.links) may next (message_view message) over
@@ -219,7 +219,7 @@ module _ {M : Type 0} (represents : Setting → ℕ → Machine → M → Type 0
         happens (StandsOwing represents) failures done _ st c (record {
           event = law.DeliverReport a;
           may = may;
-          other = λ base is. cc;
+          passes = (λ is. cc, λ base is. cc);
           follows = λ counts. tt;
           after = subst (λ (k : ℕ). IsSavingClusterOf (StandsOwing represents) st (record v { links = with_link_between v.links a k l; coordinator = next }) (law.after_event st c (law.DeliverReport a))) (sym is)
               (deliver_report_made (StandsOwing represents) st setting v c of a low_st (with_link_between v.links a st.machines l) (have_put v.links a st.machines link l (suc st.machines) of.links) may next first.report first.behind

@@ -1,8 +1,8 @@
 //! A trace whose cluster is on a board for a while.
 ghost use Rattle.std.specs.Prelude.{◌≡◌, ◌+◌, ◌*◌, ◌^◌, ◌<◌, ◌≤◌, ◌++◌, ◌∷◌, ℕ, suc, false, List, [], length, map, IfOk, OnOk};
 ghost use Rattle.cluster_step.specs.clusters.Clusters.{StandsForSaving};
-ghost use Rattle.cluster_step.specs.trace.Later.{IsLaterInAttempt, apart_now};
-ghost use Rattle.cluster_step.specs.trace.Traces.{IsSameAttempt};
+ghost use Rattle.cluster_step.specs.trace.Later.{apart_now};
+ghost use Rattle.cluster_step.specs.trace.Traces.{IsSameAttempt, TraceGoesOn};
 ghost use Rattle.link_tables.specs.Seats.{Rests};
 ghost use Rattle.wire_board.specs.Attempts.{AreAwake, AreNumbered, IsBoardOf, numbered_members, resting};
 ghost use Rattle.wire_board.specs.Led.{Lead};
@@ -125,8 +125,8 @@ impl<M: SavingMachine> Attempt<M> {
         })
     }
 
-    /// Takes the cluster off the board again. The trace remembers it, and is a later one of the
-    /// same attempt. `NoMemory` drops the trace.
+    /// Takes the cluster off the board again. The trace remembers it, and has gone on in the same
+    /// attempt, without an acknowledgement of a snapshot. `NoMemory` drops the trace.
     pub fn joined(self, alloc: Global) -> Result<Trace<M>, NoMemory>
         requires board { IsBoardOf M.represents self.trace self.failed.items
             self.board.table.table.shared.key.about.machines
@@ -142,7 +142,7 @@ impl<M: SavingMachine> Attempt<M> {
             self.members.items }
         ensures since { IfOk result (λ t. t.since ≡ t.now) }
         ensures same { IfOk result (λ t. IsSameAttempt (record self.trace { since = t.now }) t) }
-        ensures later { IfOk result (λ t. IsLaterInAttempt M.represents self.trace t) }
+        ensures goes_on { IfOk result (λ t. TraceGoesOn M.represents self.trace t) }
     {
         let Attempt {
             trace,

@@ -1,6 +1,6 @@
 //! What the coordinator's seat does.
 ghost use Rattle.std.specs.Prelude.{◌≡◌, List, IsErrOf, OnOk};
-ghost use Rattle.coordinator.specs.coord_core.Calls.{HasBegunNext, HasPutStep, HasPutWave, HasRecorded, IsReadyToRecord, MayLeadBegin, MayLeadRecord, MayNotBegin, MayNotPutStep, MayNotPutWave, MayPutStep, MayPutWave};
+ghost use Rattle.coordinator.specs.coord_core.Calls.{HasBegunNext, HasPutStep, HasPutWave, MayLeadBegin, MayNotBegin, MayNotPutStep, MayNotPutWave, MayPutStep, MayPutWave};
 ghost use Rattle.wire_board.specs.Seats.{Leads};
 
 use crate::boards::Board;
@@ -75,21 +75,5 @@ impl<M: SavingMachine> Board<M> {
         lead.coordinator.wave()?;
         self.table.settle::<Brand, Leading>(place, lead);
         Ok(())
-    }
-
-    /// Acknowledges the snapshot of this number, which is stored. It takes no memory.
-    pub fn acknowledge(&self, lead: &mut Leading, place: &mut Place<Seated<M>, Link>, number: u32)
-        requires table { place.old.seat.table_id ≡ self.now.table.table.shared.table_id }
-        requires due { MayLeadRecord lead.old.coordinator }
-        requires ready { IsReadyToRecord lead.old.coordinator number }
-        requires sits { (others : List (Seated M)) × Leads lead.old others place.old.seat.me }
-        ensures table { place.new.seat.table_id ≡ place.old.seat.table_id }
-        ensures sits { (others : List (Seated M)) → Leads lead.old others place.old.seat.me →
-            Leads lead.new others place.new.seat.me }
-        ensures number { lead.new.number ≡ lead.old.number }
-        ensures recorded { HasRecorded lead.old.coordinator lead.new.coordinator }
-    {
-        lead.coordinator.recorded(number);
-        self.table.settle::<Brand, Leading>(place, lead);
     }
 }

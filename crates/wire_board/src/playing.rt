@@ -1,7 +1,6 @@
 //! A board that is played on one thread: each seat has its turn, and then the next one.
 ghost use Rattle.std.specs.Prelude.{◌≡◌, ◌+◌, ◌*◌, ◌^◌, ◌<◌, ◌≤◌, ◌∷◌, ℕ, suc, List, [], length, IfOk, OnOk};
-ghost use Rattle.cluster_step.specs.trace.Later.{IsLaterInAttempt};
-ghost use Rattle.cluster_step.specs.trace.Traces.{IsSameAttempt};
+ghost use Rattle.cluster_step.specs.trace.Traces.{IsSameAttempt, TraceGoesOn};
 ghost use Rattle.link_tables.specs.Seats.{Rests};
 ghost use Rattle.wire_board.specs.Attempts.{AllFrom, AreNumbered, IsBoardOf, IsSeatOf, resting};
 ghost use Rattle.wire_board.specs.Led.{Lead};
@@ -27,7 +26,7 @@ pub fn play_on_board<M: EagerMachine>(
     rounds: u32,
 ) -> Result<Trace<M>, NoMemory>
     ensures same { IfOk result (λ t. IsSameAttempt (record trace { since = t.now }) t) }
-    ensures later { IfOk result (λ t. IsLaterInAttempt M.represents trace t) }
+    ensures goes_on { IfOk result (λ t. TraceGoesOn M.represents trace t) }
 {
     if trace.is_stopped() || !trace.are_all_awake() || trace.machines() >= TOO_MANY {
         let mut trace = trace;

@@ -1,10 +1,10 @@
 use Rattle.std.proofs.Common.{ap, length, subst, suc, sym, ◌∙◌, ℕ}
-use Rattle.wire_board.proofs.Attempting.{later_nowhere, later_ok, length_members, members_numbered}
+use Rattle.wire_board.proofs.Attempting.{goes_nowhere, goes_ok, length_members, members_numbered}
 use Rattle.wire_board.specs.Attempts.{AreNumbered}
 use Rattle.wire_board.proofs.playing.play_on_board.Goals as goal
 
-pub returns-then-is_stopped-clause-later : goal.returns-then-is_stopped-clause-later
-returns-then-is_stopped-clause-later g c = later_nowhere g.M.SavingMachine.represents c.args.trace c.remember.new.self c.remember.ensures
+pub returns-then-is_stopped-clause-goes_on : goal.returns-then-is_stopped-clause-goes_on
+returns-then-is_stopped-clause-goes_on g c = goes_nowhere g.M.SavingMachine.represents c.args.trace c.remember.new.self c.remember.ensures
 
 pub played-requires-clause-many : goal.played-requires-clause-many
 played-requires-clause-many g c =
@@ -17,5 +17,5 @@ played-requires-clause-numbers g c =
     subst (λ (k : ℕ). AreNumbered (suc k) 0 c.in_ok-attempt.attempt.members.items) (sym (ap (λ x. length x.now.machines.items) c.in_ok-attempt.ensures.trace))
     (subst (AreNumbered (suc (length v.now.machines.items)) 0) (sym c.in_ok-attempt.ensures.members) (members_numbered (suc (length v.now.machines.items)) 0 v.now.machines.items))
 
-pub returns-clause-later : goal.returns-clause-later
-returns-clause-later g c = later_ok g.M.SavingMachine.represents c.args.trace c.in_ok-attempt-2.attempt.trace c.joined.result (c.in_ok-attempt-2.ensures.trace ∙ c.in_ok-attempt.ensures.trace) c.joined.ensures.later
+pub returns-clause-goes_on : goal.returns-clause-goes_on
+returns-clause-goes_on g c = goes_ok g.M.SavingMachine.represents c.args.trace c.in_ok-attempt-2.attempt.trace c.joined.result (c.in_ok-attempt-2.ensures.trace ∙ c.in_ok-attempt.ensures.trace) c.joined.ensures.goes_on

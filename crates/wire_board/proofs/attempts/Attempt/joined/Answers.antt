@@ -1,7 +1,7 @@
 use Rattle.std.proofs.Common.{ap, arith, length, refl, subst, suc, sym, ◌*◌, ◌+◌, ◌∙◌, ◌≡◌, ℕ}
 use Rattle.std.proofs.lemmas.List.{length-map}
 use Rattle.cluster_step.specs.trace.Traces.{IsSameAttempt}
-use Rattle.wire_board.proofs.Attempting.{all_parts, later_on, stands_on}
+use Rattle.wire_board.proofs.Attempting.{all_parts, goes_back_in, goes_on, later_on, stands_on}
 use Rattle.wire_board.specs.Attempts.{Member, Parts}
 use Rattle.wire_board.proofs.attempts.Attempt.joined.Goals as goal
 
@@ -56,3 +56,15 @@ pub returns-clause-same : goal.returns-clause-same
 returns-clause-same g c =
     let is = c.joined.ensures.trace in
     subst (λ (q : Parts g.row.M.Denot). IsSameAttempt (record c.args.self.trace { since = q }) c.joined.result) (sym (ap (λ v. v.now) is)) c.joined.ensures.same
+
+pub returns-clause-goes_on : goal.returns-clause-goes_on
+returns-clause-goes_on g c =
+    let a = c.args.self in
+    let about = a.board.table.table.shared.key.about in
+    let e = c.close-list.ensures.ended in
+    let over = e.1 in
+    let top = c.top-top.ensures in
+    goes_back_in g.M.SavingMachine.represents a.trace c.joined.result _ c.joined.ensures.trace
+    (goes_on g.M.SavingMachine.represents a.trace a.failed.items about.machines about.failures.value.items about.done.value.items about.opening.value a.board.table.many a.board.table.top c.requires.board
+    a.lead a.members.items c.requires.lead c.requires.many c.requires.numbers a.place.seat.me c.requires.place c.close-list.result.0.items c.close-list.result.1 e.0 e.2 _ c.in_ok-machines.ensures refl refl
+    c.in_ok-links.ensures.have c.in_ok-links.ensures.each refl (omega arith) refl)

@@ -18,7 +18,7 @@ settle-requires-clause-rests g c =
       refl,
       s.rests,
       s.number,
-      carries_led g.M.SavingMachine.represents about.failures.value.items about.done.value.items (standing_parts about.machines about.opening.value) about.machines s.was lead s.number law.PutBegin (λ base is. cc) (λ st d. tt)
+      carries_led g.M.SavingMachine.represents about.failures.value.items about.done.value.items (standing_parts about.machines about.opening.value) about.machines s.was lead s.number law.PutBegin (λ is. cc, λ base is. cc) (λ st d. tt)
           (λ st k. begins_snapshot k) (λ st d. refl) (λ st d of. c.in_ok-begin.ensures.begun.0 st d (s.stays st d.coordinator of)) (λ st k of. c.in_ok-begin.ensures.begun.1 st k (s.stays st k of)),
     )
 
