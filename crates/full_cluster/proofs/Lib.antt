@@ -5,3 +5,9 @@ pub mod GivenLemmas
 pub mod FinishLemmas
 pub mod KeptLemmas
 pub mod GivingLemmas
+pub mod LockRowLemmas
+pub mod ScopeMapLemmas
+pub mod PassingLemmas
+pub mod WayLemmas
+pub mod WayRules
+pub mod QueueLemmas

@@ -1,7 +1,7 @@
 //! The lock of a vertex where each scope takes its locks for itself alone.
 ghost use Rattle.std.specs.Prelude.{◌≡◌, ◌≢◌, if◌then◌else◌, None, Some, [], ◌∷◌, ◌++◌, OnOk, OnErr, IfSome};
 ghost use Rattle.gl_base.specs.declared.scopes.ScopeId.{ScopeId};
-ghost use Rattle.full_cluster.specs.WholeLocks.{holds_lock, IsFreed, IsGrantedTo, IsUngrantable};
+ghost use Rattle.full_cluster.specs.WholeLocks.{holds_lock, HasRoomToWait, IsFirstOf, IsFreed, IsGrantedTo, IsUngrantable};
 
 use gl_base::scope_lists::is_scope;
 use gl_base::{NoMemory, ScopeId};
@@ -37,6 +37,25 @@ impl WholeLock {
         }
     }
 
+    /// Makes room for one more scope that waits.
+    pub fn reserve(&mut self) -> Result<(), NoMemory>
+        ensures room { OnOk result (HasRoomToWait self.new) }
+        ensures holder { self.new.holder ≡ self.old.holder }
+        ensures queue { self.new.queue.items ≡ self.old.queue.items }
+    {
+        self.queue.reserve(1)?;
+        Ok(())
+    }
+
+    /// The scope waits for the lock behind the others. It takes no memory.
+    pub fn wait(&mut self, scope: ScopeId)
+        requires { HasRoomToWait self.old }
+        ensures holder { self.new.holder ≡ self.old.holder }
+        ensures queue { self.new.queue.items ≡ self.old.queue.items ++ scope ∷ [] }
+    {
+        self.queue.push_back_reserved(scope);
+    }
+
     /// The scope waits for the lock behind the others. After `NoMemory` the lock is unchanged.
     pub fn ask(&mut self, scope: ScopeId) -> Result<(), NoMemory>
         ensures holder { self.new.holder ≡ self.old.holder }
@@ -47,10 +66,22 @@ impl WholeLock {
         Ok(())
     }
 
+    /// The scope that `grant` would answer.
+    pub fn first(&self) -> Option<ScopeId>
+        ensures some { IfSome result (λ s. IsFirstOf self.now s) }
+        ensures none { result ≡ None → IsUngrantable self.now }
+    {
+        match self.holder {
+            None => self.queue.front().copied(),
+            Some(_) => None,
+        }
+    }
+
     /// The first that waits holds the lock, if nobody held it. Answers which scope that is.
     pub fn grant(&mut self) -> Option<ScopeId>
         ensures granted { IfSome result (λ s. IsGrantedTo self.old self.new s) }
         ensures not_now { result ≡ None → IsUngrantable self.old }
+        ensures room { HasRoomToWait self.old → HasRoomToWait self.new }
         ensures unchanged { result ≡ None → (self.new.holder ≡ self.old.holder) ×
             (self.new.queue.items ≡ self.old.queue.items) }
     {
