@@ -11,3 +11,4 @@ pub mod PassingLemmas
 pub mod WayLemmas
 pub mod WayRules
 pub mod QueueLemmas
+pub mod MachineLemmas

@@ -6,3 +6,4 @@ pub mod Inner
 pub mod ScopeMaps
 pub mod Orders
 pub mod FullQueues
+pub mod FullMachines
