@@ -243,6 +243,23 @@ mod tests {
             home.tasks.as_slice(),
             [false, false, false, true].as_slice()
         );
+        let gift = home.give(alloc, &division, Vertex(2), MachineNo(0), Woken::Nobody);
+        let Ok(gift) = gift else {
+            panic!(rt; "memory");
+        };
+        assert_eq!(rt; gift.wakes.len(), 0);
+        let mut other = KeptNumbers {
+            numbers: Vec::from_array(alloc, [INF; 4]).expect(&rt, "memory"),
+            edges: Vec::from_array(alloc, [0; 3]).expect(&rt, "memory"),
+            tasks: Vec::from_array(alloc, [true, true, false, false]).expect(&rt, "memory"),
+        };
+        other.take(&gift);
+        assert_eq!(rt; other.numbers.as_slice(), [INF, 3, INF, INF].as_slice());
+        assert_eq!(rt; other.edges.as_slice(), [0, 1, 0].as_slice());
+        assert_eq!(rt;
+            other.tasks.as_slice(),
+            [true, true, false, false].as_slice()
+        );
     }
 
     /// The number of the second of two vertices.
