@@ -12,3 +12,4 @@ pub mod WayLemmas
 pub mod WayRules
 pub mod QueueLemmas
 pub mod MachineLemmas
+pub mod GrantLemmas

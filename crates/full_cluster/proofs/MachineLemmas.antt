@@ -1,12 +1,12 @@
 -- What a call changes of a machine, and what stays.
-use Rattle.std.proofs.Common.{◌≡◌, ◌⊎◌, ℕ, ◌<◌, ◌==◌, Bool, true, false, if◌then◌else◌, Option, None, Some, List, [], ◌∷◌, ◌++◌, eq-eqb, length, refl, slice_get, slice_index_or, subst, sym, ◌∙◌, ap, ⊎_elim}
+use Rattle.std.proofs.Common.{◌≡◌, ◌⊎◌, ℕ, ◌<◌, ◌==◌, Bool, true, false, if◌then◌else◌, Option, None, Some, List, [], ◌∷◌, ◌++◌, eq-eqb, is_err, length, map, refl, Result, Ok, Err, OnOk, slice_get, slice_index_or, subst, sym, ◌∙◌, ap, ⊎_elim}
 use Rattle.std.specs.Option.{option_map}
 use Rattle.std.proofs.lemmas.Bool.{cases_Bool, true≢false}
 use Rattle.gl_base.specs.declared.numbers.MachineNo.{MachineNo}
 use Rattle.gl_base.specs.declared.numbers.Vertex.{Vertex}
 use Rattle.gl_base.specs.declared.scopes.ScopeId.{ScopeId}
 use Rattle.gl_base.specs.scope_lists.Scopes.{is_scope, set_at, set_for}
-use Rattle.gl_base.proofs.scope_lists.SameScope.{one_or_two}
+use Rattle.gl_base.proofs.scope_lists.SameScope.{one_or_two, scopes_same}
 use Rattle.graph_core.specs.DataGraph.{size}
 use Rattle.cluster_laws.specs.cluster_core.Settings.{Setting}
 use Rattle.full_laws.specs.FullEffects.{posts_full, released_full}
@@ -15,9 +15,11 @@ use Rattle.full_laws.specs.FullParts.{FullPart, FullStand}
 use Rattle.full_cluster.specs.declared.machines.FullMachine.{FullMachine}
 use Rattle.full_cluster.specs.declared.machines.ScopeStand.{ScopeStand}
 use Rattle.full_cluster.specs.declared.queues.FullQueues.{FullQueues}
-use Rattle.full_cluster.specs.FullMachines.{IsMachineOf, IsStandOf, StandsAs}
+use Rattle.full_cluster.specs.FullMachines.{AsksNextFrom, IsMachineOf, IsStandOf, StandsAs, stood_up}
 use Rattle.full_cluster.specs.FullQueues.{AreQueuesOf}
 use Rattle.full_cluster.specs.Given.{HasLists}
+use Rattle.full_cluster.specs.Orders.{IsLockOrder}
+use Rattle.full_cluster.specs.ScopeMaps.{value_of}
 use Rattle.full_cluster.specs.WholeLocks.{has_vertex, released_of}
 
 -- the numbers and tasks are those of another part with the same ones
@@ -107,3 +109,37 @@ stand_put st a old new standing s stand there are put is t = ⊎_elim
     let other : set_for standing s (Some there) t ≡ set_for standing s None t = ap (λ (b : Bool). if b then Some there else standing t) off ∙ sym (ap (λ (b : Bool). if b then None else standing t) off) in
     subst (λ (o : Option ScopeStand). StandsAs st a o (set_for standing s (Some there) t)) (sym one) (subst (λ (o : Option FullStand). StandsAs st a (old t) o) (sym other) (are t)))
     (cases_Bool (is_scope t s))
+
+-- a scope that stands nowhere stands nowhere
+pub already_up : (st : Setting) (m : FullMachine) (part : FullPart) (s : ScopeId) → IsMachineOf st m part → value_of m.stands.entries.items s ≡ None → IsMachineOf st m (stood_up s part)
+already_up st m part s is none =
+    record {
+      numbers = lists_again st m.me.0 m.kept.numbers.items m.kept.edges.items m.kept.tasks.items part (stood_up s part) refl refl is.numbers;
+      locks = is.locks;
+      lock_count = is.lock_count;
+      log = is.log;
+      serial = is.serial;
+      flying = is.flying;
+      flights = is.flights;
+      flights_once = is.flights_once;
+      stands = λ t. ⊎_elim
+          (λ (yes : is_scope t s ≡ true).
+          let there : value_of m.stands.entries.items t ≡ None = ap (value_of m.stands.entries.items) (scopes_same t s yes) ∙ none in
+          let up : set_for part.stand s None t ≡ None = ap (λ (b : Bool). if b then None else part.stand t) yes in
+          subst (λ (o : Option ScopeStand). StandsAs st m.me.0 o (set_for part.stand s None t)) (sym there) (subst (λ (o : Option FullStand). StandsAs st m.me.0 None o) (sym up) tt))
+          (λ (off : is_scope t s ≡ false).
+          subst (λ (o : Option FullStand). StandsAs st m.me.0 (value_of m.stands.entries.items t) o) (sym (ap (λ (b : Bool). if b then None else part.stand t) off)) (is.stands t))
+          (cases_Bool (is_scope t s));
+      stands_once = is.stands_once;
+      ready = is.ready;
+      ready_once = is.ready_once;
+      out = is.out;
+    }
+
+-- the scope asks for its first lock here
+pub first_asked : (st : Setting) (a : ℕ) (stand : ScopeStand) → IsLockOrder st stand.centre.0 a (map (λ x. x.0) stand.part.items) → stand.place ≡ 0 → AsksNextFrom st a stand 0
+first_asked st a stand order place = record { order = order; next = order.first ∙ ap (slice_get (map (λ (x : Vertex). x.0) stand.part.items)) (sym place) }
+
+pub not_err : {T E P : Type 0} (r : Result T E) → is_err r ≡ false → OnOk r P → P
+not_err (Ok x) fine p = p
+not_err (Err e) fine p = absurd (true≢false fine)

@@ -3,7 +3,7 @@ use Rattle.std.specs.Bool.{⊤}
 use Rattle.std.specs.Global.{Vec}
 use Rattle.std.specs.Option.{option_map}
 use Rattle.std.specs.Vec.{vec_capacity, vec_len}
-use Rattle.std.specs.Prelude.{◌≡◌, ℕ, ◌<◌, true, Option, None, Some, List, length, map, slice_get}
+use Rattle.std.specs.Prelude.{◌≡◌, ℕ, ◌+◌, ◌<◌, true, Option, None, Some, List, length, map, slice_get}
 use Rattle.gl_base.specs.declared.numbers.MachineNo.{MachineNo}
 use Rattle.gl_base.specs.declared.numbers.Vertex.{Vertex}
 use Rattle.gl_base.specs.declared.scopes.ScopeId.{ScopeId}
@@ -18,7 +18,7 @@ use Rattle.full_cluster.specs.FullQueues.{AreQueuesOf, HasRoomFor, seen_in}
 use Rattle.full_cluster.specs.Given.{HasNumbers}
 use Rattle.full_cluster.specs.Orders.{IsLockOrder}
 use Rattle.full_cluster.specs.ScopeMaps.{AreOnce, value_of}
-use Rattle.full_cluster.specs.WholeLocks.{AreLocksOf, HasRoomAt, has_vertex}
+use Rattle.full_cluster.specs.WholeLocks.{AreLocksOf, HasRoomAt, IsNextOf, has_vertex}
 
 -- the scope waits at machine a where the model's scope waits
 pub record IsStandOf (st : Setting) (a : ℕ) (stand : ScopeStand) (standing : FullStand) : Type 0 where
@@ -75,3 +75,24 @@ pub record AsksNextFrom (st : Setting) (a : ℕ) (stand : ScopeStand) (k : ℕ) 
 -- the scope stands nowhere
 abbrev pub stood_up : ScopeId → FullPart → FullPart
 stood_up s part = record part { stand = set_for part.stand s None }
+
+-- the lock and the machines to which the scope may go on are there
+pub record IsWithinReach (m : FullMachine) (s : ScopeId) (stand : ScopeStand) : Type 0 where
+  pub lock : (y : Vertex) → slice_get stand.part.items stand.place ≡ Some y → y.0 < length m.locks.locks.items
+  pub next : (b : MachineNo) → slice_get stand.rest.items 0 ≡ Some b → b.0 < length m.out.queues.items
+  pub home : s.home.0 < length m.out.queues.items
+
+-- a scope stands before a lock of its list here, and the machines and locks to which it may go on then are there
+pub record IsWithinAfter (m : FullMachine) (s : ScopeId) (stand : ScopeStand) : Type 0 where
+  pub place : stand.place < length stand.part.items
+  pub lock : (y : Vertex) → slice_get stand.part.items (stand.place + 1) ≡ Some y → y.0 < length m.locks.locks.items
+  pub next : (b : MachineNo) → slice_get stand.rest.items 0 ≡ Some b → b.0 < length m.out.queues.items
+  pub home : s.home.0 < length m.out.queues.items
+
+-- the same of each scope that stands here
+abbrev pub AreStandsWithin : FullMachine → Type 0
+AreStandsWithin m = (s : ScopeId) (stand : ScopeStand) → value_of m.stands.entries.items s ≡ Some stand → IsWithinAfter m s stand
+
+-- whoever waits first for the lock of x stands before it
+abbrev pub AskForIt : FullPart → ℕ → Type 0
+AskForIt part x = (s : ScopeId) → IsNextOf (part.holds x) (part.queue x) s → (standing : FullStand) × (part.stand s ≡ Some standing) × (standing.lock ≡ x)

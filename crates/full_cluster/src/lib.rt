@@ -2,8 +2,10 @@
 //! keeps, an update on these, and what the update gives another machine.
 #![tactic(auto)]
 
+mod arriving;
 mod divisions;
 mod giving;
+mod granting;
 mod kept;
 mod laws;
 mod lock_rows;

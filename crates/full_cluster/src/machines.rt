@@ -1,5 +1,5 @@
 //! What a machine holds whose updates write their whole scopes.
-ghost use Rattle.std.specs.Prelude.{◌≡◌, ℕ, ◌<◌, None, [], length, map, slice_get, vec_len, All};
+ghost use Rattle.std.specs.Prelude.{◌≡◌, ℕ, ◌+◌, ◌<◌, None, [], length, map, slice_get, vec_len, All};
 ghost use Rattle.std.specs.Vec.{vec_capacity};
 ghost use Rattle.cluster_laws.specs.cluster_core.Settings.{Setting};
 ghost use Rattle.full_laws.specs.FullEffects.{leaves_full, passes_full, received_full};
@@ -44,10 +44,25 @@ pub struct FullMachine {
 
 impl ScopeStand {
     /// The vertex whose lock the scope waits for; `None` where it has all locks here.
-    fn next(&self) -> Option<Vertex>
+    pub(crate) fn next(&self) -> Option<Vertex>
         ensures { result ≡ slice_get self.now.part.items self.now.place }
     {
         self.part.get(self.place).copied()
+    }
+
+    /// The vertex behind that in the order of the locks; `None` where there is none.
+    pub(crate) fn after(&self) -> Option<Vertex>
+        requires { self.now.place < length self.now.part.items }
+        ensures { result ≡ slice_get self.now.part.items (self.now.place + 1) }
+    {
+        self.part.get(self.place + 1).copied()
+    }
+
+    /// The next of the machines that are still to come, if there is one.
+    pub(crate) fn next_machine(&self) -> Option<MachineNo>
+        ensures { result ≡ slice_get self.now.rest.items 0 }
+    {
+        self.rest.first().copied()
     }
 }
 
@@ -132,7 +147,7 @@ impl FullMachine {
 
     /// A scope goes on from where it stands: it waits for its next lock here, or leaves if it has
     /// all of them. It takes no memory.
-    fn go_on(&mut self, scope: ScopeId, stand: ScopeStand)
+    pub(crate) fn go_on(&mut self, scope: ScopeId, stand: ScopeStand)
         requires room { HasRoomToGoOn self.old scope stand }
         requires once { AreOnce self.old.stands.entries.items }
         requires none { value_of self.old.stands.entries.items scope ≡ None }

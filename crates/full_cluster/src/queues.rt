@@ -38,6 +38,7 @@ impl FullQueue {
     /// Makes room for one more message. The messages stay, whatever the answer.
     pub fn reserve(&mut self) -> Result<(), NoMemory>
         ensures room { OnOk result (HasRoomToPut self.new) }
+        ensures kept { HasRoomToPut self.old → HasRoomToPut self.new }
         ensures same { self.new.messages.items ≡ self.old.messages.items }
     {
         self.messages.reserve(1)?;
@@ -104,6 +105,8 @@ impl FullQueues {
         requires { to.0 < length self.old.queues.items }
         ensures count { length self.new.queues.items ≡ length self.old.queues.items }
         ensures room { OnOk result (HasRoomFor self.new.queues.items to.0) }
+        ensures kept { (q : ℕ) → q < length self.old.queues.items →
+            HasRoomFor self.old.queues.items q → HasRoomFor self.new.queues.items q }
         ensures same { (st : Setting) (out : ℕ → List ModelMessage) →
             AreQueuesOf st self.old.queues.items out → AreQueuesOf st self.new.queues.items out }
     {

@@ -29,6 +29,8 @@ impl<T> ScopeMap<T> {
     /// Makes room for one more value. No value changes, whatever the answer.
     pub fn reserve(&mut self) -> Result<(), NoMemory>
         ensures room { OnOk result (vec_len self.new.entries < vec_capacity self.new.entries) }
+        ensures room_kept { vec_len self.old.entries < vec_capacity self.old.entries →
+            vec_len self.new.entries < vec_capacity self.new.entries }
         ensures same { self.new.entries.items ≡ self.old.entries.items }
     {
         self.entries.reserve(1)?;
@@ -64,6 +66,7 @@ impl<T> ScopeMap<T> {
         ensures value { result ≡ value_of self.old.entries.items scope }
         ensures values { (t : ScopeId) → value_of self.new.entries.items t
             ≡ set_for (value_of self.old.entries.items) scope None t }
+        ensures unchanged { result ≡ None → self.new.entries.items ≡ self.old.entries.items }
         ensures once { AreOnce self.new.entries.items }
         ensures room { IfSome result (λ value.
             vec_len self.new.entries < vec_capacity self.new.entries) }
