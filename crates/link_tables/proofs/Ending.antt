@@ -69,9 +69,9 @@ module _ {P Q : Type 0} (number_of : P → ℕ) (Empty : Q → Type 0) (Led : Li
   pub opens : (many top peers next left : ℕ) (words : List ℕ) (links : List Q) (first front : List P) (l : P) → length words ≡ word_at (many + 2) → ((i : ℕ) → i < many → get_or words (word_at i) 0 ≡ 2)
       → get_or words (word_at many) 0 ≡ next → get_or words (word_at (many + 1)) 0 ≡ 0 → length links ≡ many → next + left ≡ top → peers ≡ length first
       → first ≡ l ∷ front → AreInOrder number_of (front ++ l ∷ []) → Led (front ++ l ∷ []) links next left
-      → HoldsTable number_of Empty Led many top peers (opening words links (view first None 0 (0, 0)))
+      → HoldsTable number_of Empty Led many top peers (opening words links (view first None 0 []))
   opens many top peers next left words links first front l long laden drawn down count over peers_is first_is order led =
-      let v : View P Q = view first None 0 (0, 0) in
+      let v : View P Q = view first None 0 [] in
       let parts : List P = front ++ l ∷ [] in
       let nothing : (i : ℕ) → sum_by (λ (u : View P Q). is_link i u.link) (v ∷ []) ≡ 0 = λ i. sum_by-cons (λ (u : View P Q). is_link i u.link) v [] in
       let last_at : get_elem? parts (length front) ≡ some l = at_last front l (length front) refl in (

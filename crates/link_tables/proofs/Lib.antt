@@ -7,3 +7,4 @@ pub mod Standing
 pub mod Stepping
 pub mod Taking
 pub mod Telling
+pub mod Seeing

@@ -1,5 +1,6 @@
 -- How a seat stands after each step.
 use Rattle.std.proofs.Common.{◌≡◌, ◌∙◌, ℕ, suc, List, [], ◌∷◌, ◌++◌, Some, None, sym, refl, ap, subst}
+use Rattle.link_tables.specs.declared.views.Sight.{Sight}
 use Rattle.link_tables.specs.Seats.{Sat, Rests, HoldsLink, view, with_first, saw, first_alone, second_alone, together, without_second, only_second}
 
 -- it has read a word
@@ -10,20 +11,20 @@ rests_on {P} {Q} me me' p others word number r is =
 
 -- it has raised the halt
 pub rests_raised : {P Q : Type 0} → (me me' : Sat P Q) (p : P) (others : List P) → Rests me p others
-    → me' ≡ (view me.0.parts me.0.link (suc me.0.raised) me.0.found, me.1) → Rests me' p others
+    → me' ≡ (view me.0.parts me.0.link (suc me.0.raised) me.0.seen, me.1) → Rests me' p others
 rests_raised {P} {Q} me me' p others r is =
     subst (λ (m : Sat P Q). Rests m p others) (sym is) (record { parts = r.parts; link = r.link; slots = r.slots })
 
 -- its first part is another
-pub rests_changed : {P Q : Type 0} → (me me' : Sat P Q) (p new : P) (others : List P) (found : ℕ × ℕ) → Rests me p others
-    → me' ≡ (view (with_first new me.0.parts) None me.0.raised found, []) → Rests me' new others
-rests_changed {P} {Q} me me' p new others found r is =
+pub rests_changed : {P Q : Type 0} → (me me' : Sat P Q) (p new : P) (others : List P) (seen : List (Sight Q)) → Rests me p others
+    → me' ≡ (view (with_first new me.0.parts) None me.0.raised seen, []) → Rests me' new others
+rests_changed {P} {Q} me me' p new others seen r is =
     subst (λ (m : Sat P Q). Rests m new others) (sym is) (record { parts = ap (with_first new) r.parts; link = refl; slots = refl })
 
 -- it has taken a link
-pub holds_taken : {P Q : Type 0} → (me me' : Sat P Q) (p new : P) (others : List P) (i : ℕ) (q : Q) (found : ℕ × ℕ) → Rests me p others
-    → me' ≡ (view (with_first new me.0.parts) (Some (i, q)) me.0.raised found, (i, q) ∷ []) → HoldsLink me' new others i q q
-holds_taken {P} {Q} me me' p new others i q found r is =
+pub holds_taken : {P Q : Type 0} → (me me' : Sat P Q) (p new : P) (others : List P) (i : ℕ) (q : Q) (seen : List (Sight Q)) → Rests me p others
+    → me' ≡ (view (with_first new me.0.parts) (Some (i, q)) me.0.raised seen, (i, q) ∷ []) → HoldsLink me' new others i q q
+holds_taken {P} {Q} me me' p new others i q seen r is =
     subst (λ (m : Sat P Q). HoldsLink m new others i q q) (sym is) (record { parts = ap (with_first new) r.parts; link = refl; slots = refl })
 
 -- it has put another queue into the link
@@ -33,9 +34,9 @@ holds_another {P} {Q} me me' p others i q r new h is =
     subst (λ (m : Sat P Q). HoldsLink m p others i q new) (sym is) (record { parts = h.parts; link = h.link; slots = refl })
 
 -- it has given the link back
-pub rests_given : {P Q : Type 0} → (me me' : Sat P Q) (p new : P) (others : List P) (i : ℕ) (q r : Q) → HoldsLink me p others i q r
-    → me' ≡ (view (with_first new me.0.parts) None me.0.raised me.0.found, []) → Rests me' new others
-rests_given {P} {Q} me me' p new others i q r h is =
+pub rests_given : {P Q : Type 0} → (me me' : Sat P Q) (p new : P) (others : List P) (i : ℕ) (q r : Q) (seen : List (Sight Q)) → HoldsLink me p others i q r
+    → me' ≡ (view (with_first new me.0.parts) None me.0.raised seen, []) → Rests me' new others
+rests_given {P} {Q} me me' p new others i q r seen h is =
     subst (λ (m : Sat P Q). Rests m new others) (sym is) (record { parts = ap (with_first new) h.parts; link = refl; slots = refl })
 
 -- it has only its first part any more

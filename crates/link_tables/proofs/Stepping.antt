@@ -8,7 +8,7 @@ use lib.Seq.{set-get_or}
 use prog.Atomic.{either}
 use Rattle.atomic_table.specs.Table.{State, step, Act, keeps, takes, gives, Valid, carried_after, put_back, stepped, Allows, Splits, Joins}
 use Rattle.atomic_table.proofs.Lists.{set_here, exchanged}
-use Rattle.link_tables.specs.Seats.{Sat, view, saw, word_at, Rests, HoldsLink, with_first, without_second, only_second, first_alone, second_alone, together, gone}
+use Rattle.link_tables.specs.Seats.{Sat, sight, view, saw, word_at, Rests, HoldsLink, with_first, without_second, only_second, first_alone, second_alone, together, gone}
 use Rattle.link_tables.specs.Rule.{AreSeated, ShowsLinks, HoldsTable, Carries, CarriesLink, CarriesTicket, Learnt}
 use Rattle.link_tables.specs.Steps.{looked, looked_at_link, looked_at_halt, took, gave, drew, changed_alone, lifted, took_by, gave_by, drew_by, changed_by}
 use Rattle.link_tables.specs.declared.views.View.{View}
@@ -84,7 +84,7 @@ module _ {P Q : Type 0} (number_of : P → ℕ) (Empty : Q → Type 0) (Led : Li
   pub lifts : (slots id i : ℕ) (m : Sat P Q) → i ≡ word_at (many + 1) → Allows Rule slots id m i (λ _. 1) (λ _. lifted (step slots i 1 0 maybe.none) m 1)
   lifts slots id i m is s h deep at small =
       let v = m.0 in
-      let w = view v.parts v.link (suc v.raised) v.found in
+      let w = view v.parts v.link (suc v.raised) v.seen in
       let g = h.4 in
       let long : i < length s.words = let x = g.words in omega arith in
       let other : (k : ℕ) → k ≢ i → get_or (set s.words i 1) k 0 ≡ get_or s.words k 0 = λ k n. get_or-set_other s.words i k 1 0 n in (
@@ -115,9 +115,9 @@ module _ {P Q : Type 0} (number_of : P → ℕ) (Empty : Q → Type 0) (Led : Li
 
   -- ---- a part changes by itself
   settle_goes : (s : Table) (h : Rule s) (i id number : ℕ) (m : Sat P Q) (p new : P) (others : List P) → get_elem? s.views id ≡ some m.0 → Rests m p others → number_of new ≡ number_of p → Carries number_of Led p new
-      → Rule (table (set s.words i (get_or s.words i 0)) s.homes (set s.views id (view (with_first new m.0.parts) None m.0.raised (i, number))))
+      → Rule (table (set s.words i (get_or s.words i 0)) s.homes (set s.views id (view (with_first new m.0.parts) None m.0.raised (sight i number None ∷ m.0.seen))))
   settle_goes s h i id number m p new others at r same carries =
-      let w = view (with_first new m.0.parts) None m.0.raised (i, number) in
+      let w = view (with_first new m.0.parts) None m.0.raised (sight i number None ∷ m.0.seen) in
       let g = h.4 in
       let now : w.parts ≡ new ∷ others = ap (with_first new) r.parts in (
         set h.0 (number_of p) new,
@@ -132,7 +132,7 @@ module _ {P Q : Type 0} (number_of : P → ℕ) (Empty : Q → Type 0) (Led : Li
   pub settles : (slots id i : ℕ) (m : Sat P Q) (p new : P) (others : List P) → Rests m p others → number_of new ≡ number_of p → Carries number_of Led p new
       → Allows Rule slots id m i (λ n. n) (changed_alone new (step slots i 0 0 maybe.none) m)
   settles slots id i m p new others r same carries s h deep at small =
-      (view (with_first new m.0.parts) None m.0.raised (i, get_or s.words i 0), keeps, tt, settle_goes s h i id (get_or s.words i 0) m p new others at r same carries, refl)
+      (view (with_first new m.0.parts) None m.0.raised (sight i (get_or s.words i 0) None ∷ m.0.seen), keeps, tt, settle_goes s h i id (get_or s.words i 0) m p new others at r same carries, refl)
 
   -- ---- taking a link
   abbrev Takes : (P → ℕ → Q → Type 0) → ℕ → ℕ → ℕ → ℕ → Sat P Q → P → Table → ℕ → Type 0
@@ -154,7 +154,7 @@ module _ {P Q : Type 0} (number_of : P → ℕ) (Empty : Q → Type 0) (Led : Li
       let n : ℕ = number_of p in
       let few = g.linked.low link q it.1 in
       exchanged x old 1 (Takes Learns slots id link old m new s)
-      (λ hit. let w = view (with_first new m.0.parts) (Some (link, q)) m.0.raised (i, x) in
+      (λ hit. let w = view (with_first new m.0.parts) (Some (link, q)) m.0.raised (sight i x None ∷ m.0.seen) in
       let free : x ≢ 1 = λ e. bad (sym hit ∙ e) in
       let now : w.parts ≡ new ∷ others = ap (with_first new) r.parts in
       let other : (k : ℕ) → k ≢ i → get_or (set s.words i 1) k 0 ≡ get_or s.words k 0 = λ k ne. get_or-set_other s.words i k 1 0 ne in
@@ -183,7 +183,7 @@ module _ {P Q : Type 0} (number_of : P → ℕ) (Empty : Q → Type 0) (Led : Li
         (
           (λ _ k is. let e : link ≡ k = omega arith in (
             q,
-            (λ t. (view (with_first new m.0.parts) (Some (e t, q)) m.0.raised (i, x), (e t, q) ∷ m.1)),
+            (λ t. (view (with_first new m.0.parts) (Some (e t, q)) m.0.raised (sight i x None ∷ m.0.seen), (e t, q) ∷ m.1)),
             subst (λ (z : ℕ). Learns new z q) e
                 (learnt (set h.0 n new) h.1 h.2 h.3 q (ap (get_elem? (set h.0 n new)) same ∙ set_here h.0 n new (is_there h.0 n p here)) it.1 led),
           )),
@@ -213,7 +213,7 @@ module _ {P Q : Type 0} (number_of : P → ℕ) (Empty : Q → Type 0) (Led : Li
       let here = part_at s h.0 h.1 h.2 h.3 g id m.0 p others at hold.parts in
       let on_it = g.linked.held id m.0 link q at hold.link in
       let n : ℕ = number_of p in
-      let w = view (with_first new m.0.parts) None m.0.raised m.0.found in
+      let w = view (with_first new m.0.parts) None m.0.raised (sight i x m.0.link ∷ m.0.seen) in
       let now : w.parts ≡ new ∷ others = ap (with_first new) hold.parts in
       let other : (k : ℕ) → k ≢ i → get_or (set s.words i x) k 0 ≡ get_or s.words k 0 = λ k ne. get_or-set_other s.words i k x 0 ne in
       let back : put_back s.homes m.1 ≡ set s.homes link (some r) = ap (put_back s.homes) hold.slots in
@@ -261,7 +261,7 @@ module _ {P Q : Type 0} (number_of : P → ℕ) (Empty : Q → Type 0) (Led : Li
       let here = part_at s h.0 h.1 h.2 h.3 g id m.0 p others at r.parts in
       let n : ℕ = number_of p in
       exchanged x ticket (ticket + 1) (Draws slots id ticket m new s)
-      (λ hit. let w = view (with_first new m.0.parts) None m.0.raised (i, x) in
+      (λ hit. let w = view (with_first new m.0.parts) None m.0.raised (sight i x None ∷ m.0.seen) in
       let now : w.parts ≡ new ∷ others = ap (with_first new) r.parts in
       let is : h.2 ≡ ticket = sym g.drawn ∙ hit in
       let some_left : 0 < h.3 = let o = g.over in omega arith in

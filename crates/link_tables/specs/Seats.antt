@@ -1,6 +1,7 @@
 -- What a seat at a table of links knows, and how it stands.
 use Rattle.std.specs.Prelude.{◌≡◌, ℕ, ◌+◌, ◌*◌, List, [], ◌∷◌, ◌++◌, Option, Some, None}
 use Rattle.atomic_table.specs.Table.{Me}
+use Rattle.link_tables.specs.declared.views.Sight.{Sight}
 use Rattle.link_tables.specs.declared.views.View.{View}
 use Rattle.link_tables.specs.declared.words.LinkWord.{LinkWord}
 use Rattle.link_tables.specs.declared.words.LinkWord.TheVariants.{Bare, Laden, Out}
@@ -15,8 +16,11 @@ number_in Out = 1
 abbrev pub word_at : ℕ → ℕ
 word_at i = i * 8
 
-abbrev pub view : {P Q : Type 0} → List P → Option (ℕ × Q) → ℕ → ℕ × ℕ → View P Q
-view parts link raised found = record { parts = parts; link = link; raised = raised; found = found }
+abbrev pub sight : {Q : Type 0} → ℕ → ℕ → Option (ℕ × Q) → Sight Q
+sight word number given = record { word = word; number = number; given = given }
+
+abbrev pub view : {P Q : Type 0} → List P → Option (ℕ × Q) → ℕ → List (Sight Q) → View P Q
+view parts link raised seen = record { parts = parts; link = link; raised = raised; seen = seen }
 
 -- a seat: its view, and the link that it has with what is in it now
 abbrev pub Sat : Type 0 → Type 0 → Type 0
@@ -41,7 +45,7 @@ with_first p (x ∷ xs) = p ∷ xs
 
 -- the seat has read a word
 abbrev pub saw : {P Q : Type 0} → View P Q → ℕ → ℕ → View P Q
-saw v word number = view v.parts v.link v.raised (word, number)
+saw v word number = view v.parts v.link v.raised (sight word number None ∷ v.seen)
 
 -- ---- seats that are cut in two, and become one
 
@@ -57,15 +61,15 @@ only_second (x ∷ (y ∷ ys)) = y ∷ []
 
 -- the seat without its second part
 abbrev pub first_alone : {P Q : Type 0} → View P Q → View P Q
-first_alone v = view (without_second v.parts) v.link v.raised v.found
+first_alone v = view (without_second v.parts) v.link v.raised v.seen
 
 -- a new seat with that part
 abbrev pub second_alone : {P Q : Type 0} → View P Q → View P Q
-second_alone v = view (only_second v.parts) None 0 (0, 0)
+second_alone v = view (only_second v.parts) None 0 []
 
 abbrev pub together : {P Q : Type 0} → View P Q → View P Q → View P Q
-together v w = view (v.parts ++ w.parts) v.link (v.raised + w.raised) v.found
+together v w = view (v.parts ++ w.parts) v.link (v.raised + w.raised) v.seen
 
 -- a seat that has gone into another
 abbrev pub gone : {P Q : Type 0} → View P Q
-gone = view [] None 0 (0, 0)
+gone = view [] None 0 []

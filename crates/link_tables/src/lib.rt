@@ -14,5 +14,5 @@ mod words;
 
 pub use rules::{Becomes, LinkRule};
 pub use tables::{LinkTable, Place};
-pub use views::View;
+pub use views::{Sight, View};
 pub use words::LinkWord;

@@ -1,6 +1,6 @@
 //! What a user says of parts and links, the rule of the table that follows, and what each step
 //! tells.
-ghost use Rattle.std.specs.Prelude.{ℕ, List, Option, None, length};
+ghost use Rattle.std.specs.Prelude.{ℕ, List, [], Option, None, length};
 ghost use Rattle.link_tables.specs.Seats.{view, gone, first_alone, second_alone, together};
 ghost use Rattle.link_tables.specs.Rule.{HoldsTable};
 ghost use Rattle.link_tables.specs.Steps.{looked, looked_at_link, looked_at_halt, took_by, gave_by, drew_by, changed_by, lifted};
@@ -55,7 +55,7 @@ impl<P, Q, K, R: LinkRule<P, Q, K>> TableRule<Padded<Q>, View<P, Q>, Start<K>> f
     ghost holds = { λ k.
         HoldsTable R.number_of R.empty (R.led k.about) k.many k.top (length (R.first k.about)) };
 
-    ghost first = { λ k. view (R.first k.about) None 0 (0, 0) };
+    ghost first = { λ k. view (R.first k.about) None 0 [] };
 }
 
 pub(crate) struct Look;

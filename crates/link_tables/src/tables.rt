@@ -1,7 +1,7 @@
 //! A table of links.
 ghost use Rattle.std.specs.Prelude.{◌≡◌, ◌≢◌, ◌↔◌, ℕ, suc, ◌+◌, ◌*◌, ◌^◌, ◌<◌, ◌≤◌, List, [], ◌∷◌, ◌++◌, true, false, length, slice_index, Some, None, IfOk, vec_len, vec_capacity};
 ghost use Rattle.atomic_table.specs.Table.{rest};
-ghost use Rattle.link_tables.specs.Seats.{view, number_in, word_at, Rests, HoldsLink, with_first, saw, first_alone, second_alone, together};
+ghost use Rattle.link_tables.specs.Seats.{view, number_in, word_at, Rests, HoldsLink, with_first, saw, sight, first_alone, second_alone, together};
 ghost use Rattle.link_tables.specs.Rule.{Carries, CarriesLink, CarriesTicket, Learnt, AreInOrder, AllHere, Ended};
 ghost use Rattle.link_tables.specs.declared.words.LinkWord.TheVariants.{Bare, Out};
 
@@ -54,7 +54,7 @@ impl<P, Q: Drop, K: Drop, R: LinkRule<P, Q, K>> LinkTable<P, Q, K, R> {
         ensures facts { IfOk result (λ t. (t.0.many ≡ length links.items) ×
             (t.0.top ≡ next + left) × (t.0.table.shared.key.about ≡ about)) }
         ensures place { IfOk result (λ t. (t.1.seat.table_id ≡ t.0.table.shared.table_id) ×
-            (t.1.seat.me ≡ (view (R.first about) None 0 (0, 0), []))) }
+            (t.1.seat.me ≡ (view (R.first about) None 0 [], []))) }
     {
         let many = links.len();
         let top = next + left;
@@ -166,7 +166,7 @@ impl<P, Q: Drop, K: Drop, R: LinkRule<P, Q, K>> LinkTable<P, Q, K, R> {
         ensures table { place.new.seat.table_id ≡ place.old.seat.table_id }
         ensures raised { place.new.seat.me ≡ (
           view place.old.seat.me.0.parts place.old.seat.me.0.link
-              (suc place.old.seat.me.0.raised) place.old.seat.me.0.found,
+              (suc place.old.seat.me.0.raised) place.old.seat.me.0.seen,
           place.old.seat.me.1,
         ) }
     {
@@ -196,7 +196,8 @@ impl<P, Q: Drop, K: Drop, R: LinkRule<P, Q, K>> LinkTable<P, Q, K, R> {
               view (with_first new place.old.seat.me.0.parts) (Some (
                 link,
                 q,
-              )) place.old.seat.me.0.raised (word_at link, number_in result),
+              )) place.old.seat.me.0.raised
+                  (sight (word_at link) (number_in result) None ∷ place.old.seat.me.0.seen),
               (link, q) ∷ [],
             ))
             × R.learns new link q }
@@ -231,7 +232,8 @@ impl<P, Q: Drop, K: Drop, R: LinkRule<P, Q, K>> LinkTable<P, Q, K, R> {
             .into_inner()
     }
 
-    /// Gives the link back with what is in it. The place's first part has become what is picked.
+    /// Gives the link back with what is in it. The place's first part has become what is picked, and
+    /// the place knows what was on the link as it was taken.
     pub fn give<B: Becomes<P>, T>(
         &self,
         place: &mut Place<P, Q>,
@@ -248,8 +250,9 @@ impl<P, Q: Drop, K: Drop, R: LinkRule<P, Q, K>> LinkTable<P, Q, K, R> {
         ensures table { place.new.seat.table_id ≡ place.old.seat.table_id }
         ensures given { (new : P) → B.part ≡ Some new →
             place.new.seat.me ≡ (
-              view (with_first new place.old.seat.me.0.parts) None
-                  place.old.seat.me.0.raised place.old.seat.me.0.found,
+              view (with_first new place.old.seat.me.0.parts) None place.old.seat.me.0.raised
+                  (sight (word_at link) (number_in word) place.old.seat.me.0.link ∷
+                  place.old.seat.me.0.seen),
               [],
             ) }
     {
@@ -276,7 +279,7 @@ impl<P, Q: Drop, K: Drop, R: LinkRule<P, Q, K>> LinkTable<P, Q, K, R> {
         ensures drawn { result ≡ true → (new : P) → B.part ≡ Some new
             → place.new.seat.me ≡ (
               view (with_first new place.old.seat.me.0.parts) None place.old.seat.me.0.raised
-                  (word_at self.now.many, ticket),
+                  (sight (word_at self.now.many) ticket None ∷ place.old.seat.me.0.seen),
               [],
             ) }
         ensures late { result ≡ false → (number : ℕ) × (number ≢ ticket) ×
@@ -297,7 +300,7 @@ impl<P, Q: Drop, K: Drop, R: LinkRule<P, Q, K>> LinkTable<P, Q, K, R> {
         ensures settled { (new : P) → B.part ≡ Some new
             → place.new.seat.me ≡ (
               view (with_first new place.old.seat.me.0.parts) None place.old.seat.me.0.raised
-                  (word_at self.now.many, result),
+                  (sight (word_at self.now.many) result None ∷ place.old.seat.me.0.seen),
               [],
             ) }
     {

@@ -118,7 +118,7 @@ members_are p q members number peers same many more are =
     are ∙ (λ i. numbered_members (more i) 0 (same i).machines.items)
     ∙ (let e : number + 1 ≡ suc number = omega arith in ap (λ (k : ℕ). numbered_members k 0 q.machines.items) (e ∙ ap suc (many ∙ ap (λ (r : Parts _). length r.machines.items) same)))
 
-pub rests_first : {M : Type 0} (n : ℕ) (p : Parts M) (lead : Leading) (members : List (Member M)) (me : Sat (Seated M) LinkView) → me ≡ (view (first_parts n p) None 0 (0, 0), [])
+pub rests_first : {M : Type 0} (n : ℕ) (p : Parts M) (lead : Leading) (members : List (Member M)) (me : Sat (Seated M) LinkView) → me ≡ (view (first_parts n p) None 0 [], [])
     → lead.number ≡ n → lead.coordinator ≡ p.coordinator → members ≡ numbered_members (suc n) 0 p.machines.items → Rests me (Lead lead) (resting members)
 rests_first {M} n p lead members me is number coordinator are =
     subst (λ (m : Sat (Seated M) LinkView). Rests m (Lead lead) (resting members)) (sym is) (record {

@@ -14,3 +14,4 @@ pub mod LeadPlaces
 pub mod Gathering
 pub mod Attempting
 pub mod Turning
+pub mod Sighting

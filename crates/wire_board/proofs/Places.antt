@@ -1,10 +1,12 @@
 -- How a machine's seat stands after each step.
 use Rattle.std.proofs.Common.{List, None, Some, [], ap, false, inl, inr, length, refl, sym, true, ◌++◌, ◌==◌, ◌∙◌, ◌∷◌, ◌≡◌, ◌≢◌, ◌⊎◌, ℕ}
+use Rattle.std.proofs.lemmas.Bool.{eqb-true}
 use Rattle.std.specs.Prelude.{Err, IsTrue, Ok, OnErr, Result, ◌↔◌}
 use Rattle.cluster_laws.specs.cluster_core.Actions.{HasFirst}
 use Rattle.cluster_laws.specs.cluster_core.Messages.{Message}
 use Rattle.link_tables.proofs.Standing.{holds_another, holds_taken, rests_changed, rests_given, rests_on, same_queue}
 use Rattle.link_tables.specs.Seats.{HoldsLink, Rests, Sat, saw, view, with_first}
+use Rattle.link_tables.specs.declared.views.Sight.{Sight}
 use Rattle.link_tables.specs.declared.words.LinkWord.{LinkWord}
 use Rattle.link_tables.specs.declared.words.LinkWord.TheVariants.{Bare, Laden, Out}
 use Rattle.wire_board.proofs.Seating.{come_nowhere}
@@ -28,20 +30,20 @@ module _ {M : Type 0} (represents : Setting → ℕ → Machine → M → Type 0
   sits_read me me' word number s is =
       record { was = s.was; rests = rests_on me me' (Node s.was) [] word number s.rests is; number = s.number; peers = s.peers; come = s.come }
 
-  pub sits_given : (me me' : Sat (Seated M) LinkView) (p : Seated M) (i : ℕ) (q r : LinkView) → HoldsLink me p [] i q r
-      → me' ≡ (view (with_first (Node (at_rest member)) me.0.parts) None me.0.raised me.0.found, []) → Sits represents member me'
-  sits_given me me' p i q r h is =
-      record { was = at_rest member; rests = rests_given me me' p (Node (at_rest member)) [] i q r h is; number = refl; peers = refl; come = come_nowhere represents member }
+  pub sits_given : (me me' : Sat (Seated M) LinkView) (p : Seated M) (i : ℕ) (q r : LinkView) (seen : List (Sight LinkView)) → HoldsLink me p [] i q r
+      → me' ≡ (view (with_first (Node (at_rest member)) me.0.parts) None me.0.raised seen, []) → Sits represents member me'
+  sits_given me me' p i q r seen h is =
+      record { was = at_rest member; rests = rests_given me me' p (Node (at_rest member)) [] i q r seen h is; number = refl; peers = refl; come = come_nowhere represents member }
 
   -- its first part is another, from which it has come
-  pub sits_changed : (me me' : Sat (Seated M) LinkView) (p : Seated M) (x : Standing M) (found : ℕ × ℕ) → Rests me p [] → me' ≡ (view (with_first (Node x) me.0.parts) None me.0.raised found, [])
+  pub sits_changed : (me me' : Sat (Seated M) LinkView) (p : Seated M) (x : Standing M) (seen : List (Sight LinkView)) → Rests me p [] → me' ≡ (view (with_first (Node x) me.0.parts) None me.0.raised seen, [])
       → member.number ≡ x.member.number → member.peers ≡ x.member.peers → HasComeTo represents x member.machine → Sits represents member me'
-  sits_changed me me' p x found r is number peers come =
-      record { was = x; rests = rests_changed me me' p (Node x) [] found r is; number = number; peers = peers; come = come }
+  sits_changed me me' p x seen r is number peers come =
+      record { was = x; rests = rests_changed me me' p (Node x) [] seen r is; number = number; peers = peers; come = come }
 
-  pub has_taken : (me me' : Sat (Seated M) LinkView) (p : Seated M) (i : ℕ) (q : LinkView) (found : ℕ × ℕ) → Rests me p []
-      → me' ≡ (view (with_first (Node (at_rest member)) me.0.parts) (Some (i, q)) me.0.raised found, (i, q) ∷ []) → Learns represents (Node (at_rest member)) i q → HasTakenLink represents member i me'
-  has_taken me me' p i q found r is learns = record { queue = q; holds = holds_taken me me' p (Node (at_rest member)) [] i q found r is; learns = learns }
+  pub has_taken : (me me' : Sat (Seated M) LinkView) (p : Seated M) (i : ℕ) (q : LinkView) (seen : List (Sight LinkView)) → Rests me p []
+      → me' ≡ (view (with_first (Node (at_rest member)) me.0.parts) (Some (i, q)) me.0.raised seen, (i, q) ∷ []) → Learns represents (Node (at_rest member)) i q → HasTakenLink represents member i me'
+  has_taken me me' p i q seen r is learns = record { queue = q; holds = holds_taken me me' p (Node (at_rest member)) [] i q seen r is; learns = learns }
 
   -- what is put into the link that the seat has taken, and what was there
   module _ (me me' : Sat (Seated M) LinkView) (i : ℕ) (new was : LinkView) (t : HasTakenLink represents member i me) (is : me' ≡ (me.0, (i, new) ∷ [])) (there : me.1 ≡ (i, was) ∷ []) where
@@ -70,3 +72,6 @@ not_empty {A} all more some is none =
     let e : all ≡ [] = is ∙ ap (λ (l : List A). l ++ []) none in
     let zero : (length all == 0) ≡ true = ap (λ (l : List A). length l == 0) e in
     cc
+
+pub no_length : {A : Type 0} (all : List A) → (length all == 0) ≡ true → length all ≡ 0
+no_length all is = eqb-true (length all) 0 is

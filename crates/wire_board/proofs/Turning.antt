@@ -38,11 +38,11 @@ module _ {M : Type 0} (represents : Setting → ℕ → Machine → M → Type 0
   sits_looked member me me' word top (Some ticket) next spent s = sits_read represents member me me' word ticket s next.1
   sits_looked member me me' word top None next spent s = sits_read represents member me me' word spent.0 s spent.2
 
-  pub sits_raised : (member : Member M) (me me' : Sat (Seated M) LinkView) → me' ≡ (view me.0.parts me.0.link (suc me.0.raised) me.0.found, me.1) → Sits represents member me → Sits represents member me'
+  pub sits_raised : (member : Member M) (me me' : Sat (Seated M) LinkView) → me' ≡ (view me.0.parts me.0.link (suc me.0.raised) me.0.seen, me.1) → Sits represents member me → Sits represents member me'
   sits_raised member me me' is s =
       record { was = s.was; rests = rests_raised me me' (Node s.was) [] s.rests is; number = s.number; peers = s.peers; come = s.come }
 
-pub leads_raised : {M : Type 0} (lead : Leading) (others : List (Seated M)) (me me' : Sat (Seated M) LinkView) → me' ≡ (view me.0.parts me.0.link (suc me.0.raised) me.0.found, me.1) → Leads lead others me → Leads lead others me'
+pub leads_raised : {M : Type 0} (lead : Leading) (others : List (Seated M)) (me me' : Sat (Seated M) LinkView) → me' ≡ (view me.0.parts me.0.link (suc me.0.raised) me.0.seen, me.1) → Leads lead others me → Leads lead others me'
 leads_raised lead others me me' is s = record { was = s.was; rests = rests_raised me me' (Lead s.was) others s.rests is; number = s.number; stays = s.stays }
 
 -- it has reached the count of no failure

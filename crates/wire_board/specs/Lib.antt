@@ -5,5 +5,6 @@ pub mod Freeing
 pub mod Led
 pub mod Openings
 pub mod Seats
+pub mod Sights
 pub mod Closings
 pub mod Attempts

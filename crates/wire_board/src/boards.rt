@@ -68,7 +68,7 @@ impl<M: SavingMachine> Board<M> {
             (t.0.table.table.shared.key.about ≡ about) × (t.0.table.top ≡ next + left)) }
         ensures place { IfOk result (λ t. (t.1.seat.table_id ≡ t.0.table.table.shared.table_id) ×
             (t.1.seat.me ≡ (
-              view (first_parts about.machines about.opening.value) None 0 (0, 0),
+              view (first_parts about.machines about.opening.value) None 0 [],
               [],
             ))) }
     {
@@ -144,7 +144,7 @@ impl<M: SavingMachine> Board<M> {
         ensures table { place.new.seat.table_id ≡ place.old.seat.table_id }
         ensures raised { place.new.seat.me ≡ (
           view place.old.seat.me.0.parts place.old.seat.me.0.link
-              (suc place.old.seat.me.0.raised) place.old.seat.me.0.found,
+              (suc place.old.seat.me.0.raised) place.old.seat.me.0.seen,
           place.old.seat.me.1,
         ) }
     {

@@ -18,7 +18,8 @@ pub(crate) fn hear_first<M: SavingMachine>(
     ensures heard { IfOk result (λ some. some ≡ true → (message : Message) ×
         (queue.old.messages ≡ message_view message ∷ queue.new.messages) ×
         HasHeard M.represents machine.old message machine.new) }
-    ensures none { IfOk result (λ some. some ≡ false → machine.new ≡ machine.old) }
+    ensures none { IfOk result (λ some. some ≡ false →
+        (machine.new ≡ machine.old) × (queue.old.messages ≡ [])) }
 {
     match queue.take() {
         Some(message) => match machine.hear(message) {

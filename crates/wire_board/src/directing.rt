@@ -1,8 +1,9 @@
 //! The coordinator's turn on a board.
 ghost use Rattle.std.specs.Prelude.{◌≡◌, ◌+◌, ◌*◌, ◌^◌, ◌<◌, ℕ, suc, List, OnOk};
 ghost use Rattle.link_tables.specs.Seats.{Rests};
-ghost use Rattle.wire_board.specs.Led.{Lead};
+ghost use Rattle.wire_board.specs.Led.{Lead, link_no};
 ghost use Rattle.wire_board.specs.Seats.{Leads};
+ghost use Rattle.wire_board.specs.Sights.{HasLooked, Sees};
 
 use crate::boards::Board;
 use crate::passing::{Heard, Told};
@@ -25,8 +26,8 @@ pub enum Directed {
 }
 
 impl<M: SavingMachine> Board<M> {
-    /// The coordinator's turn: it tells each machine a call, hears a report of each, and does what
-    /// is due. It puts a wave out only where nothing has moved. Where a record is due, or the end,
+    /// The coordinator's turn: it tells each machine a call, looks at the link from each and hears a
+    /// report, and does what is due. It puts a wave out only where nothing has moved. Where a record is due, or the end,
     /// it does nothing of its own.
     pub fn direct(
         &self,
@@ -43,6 +44,10 @@ impl<M: SavingMachine> Board<M> {
         ensures sits { (others : List (Seated M)) → Leads lead.old others place.old.seat.me →
             Leads lead.new others place.new.seat.me }
         ensures number { lead.new.number ≡ lead.old.number }
+        ensures looked { OnOk result (
+            (from : ℕ) → from < lead.old.number →
+            HasLooked place.old.seat.me place.new.seat.me
+            (link_no (suc lead.old.number) from lead.old.number)) }
     {
         let told = self.tell_calls(alloc, lead, place)?;
         let heard = self.hear_reports(alloc, lead, place);
@@ -64,6 +69,7 @@ impl<M: SavingMachine> Board<M> {
         ensures sits { (others : List (Seated M)) → Leads lead.old others place.old.seat.me →
             Leads lead.new others place.new.seat.me }
         ensures number { lead.new.number ≡ lead.old.number }
+        ensures sees { OnOk result (Sees place.old.seat.me place.new.seat.me) }
     {
         let mut moved = false;
         for to in 0..lead.number {
@@ -90,6 +96,9 @@ impl<M: SavingMachine> Board<M> {
         ensures sits { (others : List (Seated M)) → Leads lead.old others place.old.seat.me →
             Leads lead.new others place.new.seat.me }
         ensures number { lead.new.number ≡ lead.old.number }
+        ensures looked { (from : ℕ) → from < lead.old.number →
+            HasLooked place.old.seat.me place.new.seat.me
+            (link_no (suc lead.old.number) from lead.old.number) }
     {
         let mut moved = false;
         for from in 0..lead.number {
@@ -102,7 +111,7 @@ impl<M: SavingMachine> Board<M> {
     }
 
     /// Does what is due of its own.
-    fn lead(
+    pub(crate) fn lead(
         &self,
         lead: &mut Leading,
         place: &mut Place<Seated<M>, Link>,
@@ -114,19 +123,41 @@ impl<M: SavingMachine> Board<M> {
         ensures sits { (others : List (Seated M)) → Leads lead.old others place.old.seat.me →
             Leads lead.new others place.new.seat.me }
         ensures number { lead.new.number ≡ lead.old.number }
+        ensures sees { Sees place.old.seat.me place.new.seat.me }
     {
-        let came = match lead.coordinator.due() {
-            Due::Snapshot(_) => self.begin(lead, place),
-            Due::Step(_) => self.step(lead, place),
-            Due::Wave if !moved => self.wave(lead, place),
-            Due::Record(_) | Due::Ended => return Ok(Directed::Ending),
-            _ => Err(Refused::NotNow),
-        };
-        match came {
+        let due = lead.coordinator.due();
+        if matches!(due, Due::Record(_) | Due::Ended) {
+            return Ok(Directed::Ending);
+        }
+        match self.lead_due(lead, place, due, moved) {
             Ok(()) => Ok(Directed::Moved),
             Err(Refused::NoMemory) => Err(NoMemory),
             Err(Refused::NotNow) if moved => Ok(Directed::Moved),
             Err(Refused::NotNow) => Ok(Directed::Nothing),
+        }
+    }
+
+    /// Does this, which is due; a wave only where nothing has moved.
+    fn lead_due(
+        &self,
+        lead: &mut Leading,
+        place: &mut Place<Seated<M>, Link>,
+        due: Due,
+        moved: bool,
+    ) -> Result<(), Refused>
+        requires table { place.old.seat.table_id ≡ self.now.table.table.shared.table_id }
+        requires sits { (others : List (Seated M)) × Leads lead.old others place.old.seat.me }
+        ensures table { place.new.seat.table_id ≡ place.old.seat.table_id }
+        ensures sits { (others : List (Seated M)) → Leads lead.old others place.old.seat.me →
+            Leads lead.new others place.new.seat.me }
+        ensures number { lead.new.number ≡ lead.old.number }
+        ensures sees { Sees place.old.seat.me place.new.seat.me }
+    {
+        match due {
+            Due::Snapshot(_) => self.begin(lead, place),
+            Due::Step(_) => self.step(lead, place),
+            Due::Wave if !moved => self.wave(lead, place),
+            _ => Err(Refused::NotNow),
         }
     }
 

@@ -1,11 +1,12 @@
 //! Tickets that a machine's seat draws.
-ghost use Rattle.std.specs.Prelude.{◌≡◌, ◌≢◌, ◌<◌, ◌≤◌, ℕ, [], IfNone, IfOk, IfSome, OnErr, OnOk};
-ghost use Rattle.link_tables.specs.Seats.{Rests, saw, word_at};
+ghost use Rattle.std.specs.Prelude.{◌≡◌, ◌≢◌, ◌<◌, ◌≤◌, ℕ, [], None, IfNone, IfOk, IfSome, OnErr, OnOk};
+ghost use Rattle.link_tables.specs.Seats.{Rests, saw, sight, word_at};
 ghost use Rattle.coordinator.specs.machine_api.AtOnce.{HasUpdatedAtOnce};
 ghost use Rattle.coordinator.specs.machine_api.Promises.{CanUpdate, HasDone, StandsStill, Update};
 ghost use Rattle.wire_board.specs.Freeing.{IsFree};
 ghost use Rattle.wire_board.specs.Led.{Node};
 ghost use Rattle.wire_board.specs.Seats.{Sits, at_rest};
+ghost use Rattle.wire_board.specs.Sights.{HasSeen, Sees};
 ghost use Rattle.wire_board.specs.Standings.{CanBeginAtOnce, owing, owing_at_once};
 
 use crate::boards::Board;
@@ -73,11 +74,14 @@ impl<M: SavingMachine> Board<M> {
             (member.new.peers ≡ member.old.peers) }
         ensures made { IfOk result (λ drawn. drawn ≡ Drawn.Made →
             HasDone M.represents member.old.machine (Update scope ticket) member.new.machine ×
-            (place.new.seat.me.0.found ≡ (word_at self.now.table.many, ticket))) }
+            HasSeen place.old.seat.me place.new.seat.me
+            (sight (word_at self.now.table.many) ticket None)) }
         ensures late { IfOk result (λ drawn. drawn ≡ Drawn.Late →
             (member.new.machine ≡ member.old.machine)
             × (next : ℕ) × (next ≢ ticket) ×
-            (place.new.seat.me.0.found ≡ (word_at self.now.table.many, next))) }
+            HasSeen place.old.seat.me place.new.seat.me
+            (sight (word_at self.now.table.many) next None)) }
+        ensures sees { Sees place.old.seat.me place.new.seat.me }
         ensures owes { OnErr result (StandsStill M.represents member.old.machine member.new.machine
             × Rests place.new.seat.me (Node (owing member.old scope ticket)) []) }
     {
@@ -129,11 +133,14 @@ impl<M: EagerMachine> Board<M> {
             (member.new.peers ≡ member.old.peers) }
         ensures made { IfOk result (λ drawn. drawn ≡ Drawn.Made →
             HasUpdatedAtOnce M.represents member.old.machine v.0 ticket member.new.machine ×
-            (place.new.seat.me.0.found ≡ (word_at self.now.table.many, ticket))) }
+            HasSeen place.old.seat.me place.new.seat.me
+            (sight (word_at self.now.table.many) ticket None)) }
         ensures late { IfOk result (λ drawn. drawn ≡ Drawn.Late →
             (member.new.machine ≡ member.old.machine)
             × (next : ℕ) × (next ≢ ticket) ×
-            (place.new.seat.me.0.found ≡ (word_at self.now.table.many, next))) }
+            HasSeen place.old.seat.me place.new.seat.me
+            (sight (word_at self.now.table.many) next None)) }
+        ensures sees { Sees place.old.seat.me place.new.seat.me }
         ensures owes { OnErr result (StandsStill M.represents member.old.machine member.new.machine
             × Rests place.new.seat.me (Node (owing_at_once member.old v ticket)) []) }
     {

@@ -2,6 +2,7 @@
 ghost use Rattle.std.specs.Prelude.{◌≡◌, List, IsErrOf, OnOk};
 ghost use Rattle.coordinator.specs.coord_core.Calls.{HasBegunNext, HasPutStep, HasPutWave, MayLeadBegin, MayNotBegin, MayNotPutStep, MayNotPutWave, MayPutStep, MayPutWave};
 ghost use Rattle.wire_board.specs.Seats.{Leads};
+ghost use Rattle.wire_board.specs.Sights.{Sees};
 
 use crate::boards::Board;
 use crate::standings::{Leading, Seated};
@@ -27,6 +28,7 @@ impl<M: SavingMachine> Board<M> {
             HasBegunNext lead.old.coordinator lead.new.coordinator) }
         ensures not_now { IsErrOf result Refused.NotNow → MayNotBegin lead.old.coordinator }
         ensures no_memory { IsErrOf result Refused.NoMemory → MayLeadBegin lead.old.coordinator }
+        ensures sees { Sees place.old.seat.me place.new.seat.me }
     {
         lead.coordinator.begin()?;
         self.table.settle::<Brand, Leading>(place, lead);
@@ -49,6 +51,7 @@ impl<M: SavingMachine> Board<M> {
             HasPutStep lead.old.coordinator lead.new.coordinator) }
         ensures not_now { IsErrOf result Refused.NotNow → MayNotPutStep lead.old.coordinator }
         ensures no_memory { IsErrOf result Refused.NoMemory → MayPutStep lead.old.coordinator }
+        ensures sees { Sees place.old.seat.me place.new.seat.me }
     {
         lead.coordinator.step()?;
         self.table.settle::<Brand, Leading>(place, lead);
@@ -71,6 +74,7 @@ impl<M: SavingMachine> Board<M> {
             HasPutWave lead.old.coordinator lead.new.coordinator) }
         ensures not_now { IsErrOf result Refused.NotNow → MayNotPutWave lead.old.coordinator }
         ensures no_memory { IsErrOf result Refused.NoMemory → MayPutWave lead.old.coordinator }
+        ensures sees { Sees place.old.seat.me place.new.seat.me }
     {
         lead.coordinator.wave()?;
         self.table.settle::<Brand, Leading>(place, lead);

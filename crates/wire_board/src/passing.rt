@@ -1,7 +1,7 @@
 //! What a machine's seat hears and tells on the links.
-ghost use Rattle.std.specs.Prelude.{◌≡◌, ◌≢◌, ◌+◌, ◌-◌, ◌*◌, ◌^◌, ◌<◌, ◌++◌, ℕ, suc, List, [], length, true, false, map, IfOk, OnOk};
+ghost use Rattle.std.specs.Prelude.{◌≡◌, ◌≢◌, ◌+◌, ◌-◌, ◌*◌, ◌^◌, ◌<◌, ◌++◌, ◌∷◌, ℕ, suc, List, [], None, length, true, false, map, IfOk, OnOk};
 ghost use Rattle.link_tables.specs.Rule.{CarriesLink};
-ghost use Rattle.link_tables.specs.Seats.{HoldsLink, number_in};
+ghost use Rattle.link_tables.specs.Seats.{HoldsLink, number_in, sight};
 ghost use Rattle.link_tables.specs.declared.words.LinkWord.{LinkWord};
 ghost use Rattle.link_tables.specs.declared.words.LinkWord.TheVariants.{Bare, Laden, Out};
 ghost use Rattle.coordinator.specs.machine_api.Promises.{HasHeard, HasNext, IsReporting, MayHearCall, OfEach};
@@ -9,9 +9,10 @@ ghost use Rattle.wire.specs.declared.wire_msgs.messages.Message.{Message};
 ghost use Rattle.coordinator.specs.machine_api.Told.{message_read};
 ghost use Rattle.wire_board.specs.Freeing.{IsFree};
 ghost use Rattle.wire_board.specs.Hearing.{CanHear, HasHeardAll, HasHeardFirst, HasToldAll, HasToldFirst, MayHearFirst, MessageView};
-ghost use Rattle.wire_board.specs.Led.{HasBeenLed, LinkView, Node, link_no, number_of};
+ghost use Rattle.wire_board.specs.Led.{HasBeenLed, IsBare, LinkView, Node, link_no, number_of};
 ghost use Rattle.wire_board.specs.Openings.{standing_parts};
 ghost use Rattle.wire_board.specs.Seats.{HasTakenLink, Sits, at_rest, word_at};
+ghost use Rattle.wire_board.specs.Sights.{FoundBare, FoundWord, HadQueue, HasLooked, Sees};
 
 use crate::boards::{Board, word_of};
 use crate::calls::{hear_first, tell_first};
@@ -47,9 +48,9 @@ pub enum Told {
 }
 
 impl<M: SavingMachine> Board<M> {
-    /// Hears all that another machine has put on the link to this one. `Empty` comes where nothing
-    /// is on the link, and `Busy` only where another seat has it. For want of memory what is not
-    /// heard yet stays on the link.
+    /// Hears all that another machine has put on the link to this one. `Empty` comes only where
+    /// nothing is on the link, and `Busy` only where another seat has it. For want of memory what
+    /// is not heard yet stays on the link.
     pub fn hear(
         &self,
         alloc: Global,
@@ -70,16 +71,20 @@ impl<M: SavingMachine> Board<M> {
         ensures applied { IfOk result (λ how. how ≡ Heard.Applied → (heard : List MessageView) ×
             (heard ≢ []) × CanHear M.represents member.old.machine from.0 member.old.number heard
             × HasHeardAll M.represents member.old.machine from.0 member.old.number heard
-            [] member.new.machine) }
+            [] member.new.machine
+            × (queue : LinkView) × (queue.messages ≡ heard) ×
+            HadQueue place.old.seat.me place.new.seat.me
+            (link_no member.old.peers from.0 member.old.number) queue) }
         ensures empty { IfOk result (λ how. how ≡ Heard.Empty →
             (member.new.machine ≡ member.old.machine)
-            × (word : LinkWord) × (word ≢ Out) ×
-            (place.new.seat.me.0.found ≡
-            (word_at (link_no member.old.peers from.0 member.old.number), number_in word))) }
+            × FoundBare place.old.seat.me place.new.seat.me
+            (link_no member.old.peers from.0 member.old.number)) }
         ensures busy { IfOk result (λ how. how ≡ Heard.Busy →
             (member.new.machine ≡ member.old.machine)
-            × (place.new.seat.me.0.found ≡
-            (word_at (link_no member.old.peers from.0 member.old.number), number_in Out))) }
+            × FoundWord place.old.seat.me place.new.seat.me
+            (link_no member.old.peers from.0 member.old.number) Out) }
+        ensures looked { HasLooked place.old.seat.me place.new.seat.me
+            (link_no member.old.peers from.0 member.old.number) }
     {
         let link = self.link(from.0 as usize, member.number, member.peers);
         match self.take_laden(member, place, link) {
@@ -107,13 +112,17 @@ impl<M: SavingMachine> Board<M> {
         ensures sits { Sits M.represents member.new place.new.seat.me }
         ensures same { (member.new.number ≡ member.old.number) ×
             (member.new.peers ≡ member.old.peers) }
-        ensures found { place.new.seat.me.0.found ≡ place.old.seat.me.0.found }
+        ensures sees { Sees place.old.seat.me place.new.seat.me }
         ensures applied { IfOk result (λ how. how ≡ Heard.Applied → (heard : List MessageView) ×
             (heard ≢ []) × CanHear M.represents member.old.machine from.0 member.old.number heard
             × HasHeardAll M.represents member.old.machine from.0 member.old.number heard
-            [] member.new.machine) }
+            [] member.new.machine
+            × (queue : LinkView) × (queue.messages ≡ heard) ×
+            HadQueue place.old.seat.me place.new.seat.me link queue) }
         ensures empty { IfOk result (λ how. how ≡ Heard.Empty →
-            member.new.machine ≡ member.old.machine) }
+            (member.new.machine ≡ member.old.machine)
+            × (queue : LinkView) × IsBare queue ×
+            HadQueue place.old.seat.me place.new.seat.me link queue) }
         ensures home { IfOk result (λ how. how ≢ Heard.Busy) }
     {
         let mut queue = self.table.exchange(place, link, Link::new(alloc));
@@ -156,10 +165,9 @@ impl<M: SavingMachine> Board<M> {
         ensures busy { IfOk result (λ how. how ≡ Told.Busy →
             (member.new.machine ≡ member.old.machine)
             × (word : LinkWord) × (word ≢ Bare) ×
-            (place.new.seat.me.0.found ≡ (
-              word_at (link_no member.old.peers member.old.number to.0),
-              number_in word,
-            ))) }
+            FoundWord place.old.seat.me place.new.seat.me
+            (link_no member.old.peers member.old.number to.0) word) }
+        ensures sees { Sees place.old.seat.me place.new.seat.me }
     {
         if !member.machine.waits(to) {
             return Ok(Told::Nothing);
@@ -175,8 +183,9 @@ impl<M: SavingMachine> Board<M> {
         Ok(Told::Moved)
     }
 
-    /// Hears the first call that the coordinator has put on the link. The machine has reached the
-    /// count of no failure.
+    /// Hears the first call that the coordinator has put on the link. `Empty` comes only where none
+    /// is there, and `Busy` only where another seat has it. The machine has reached the count of no
+    /// failure.
     pub fn hear_call(
         &self,
         alloc: Global,
@@ -201,17 +210,14 @@ impl<M: SavingMachine> Board<M> {
             HasHeard M.represents member.old.machine message member.new.machine) }
         ensures empty { IfOk result (λ how. how ≡ Heard.Empty →
             (member.new.machine ≡ member.old.machine)
-            × (word : LinkWord) × (word ≢ Out) ×
-            (place.new.seat.me.0.found ≡ (
-              word_at (link_no member.old.peers (member.old.peers - 1) member.old.number),
-              number_in word,
-            ))) }
+            × FoundBare place.old.seat.me place.new.seat.me
+            (link_no member.old.peers (member.old.peers - 1) member.old.number)) }
         ensures busy { IfOk result (λ how. how ≡ Heard.Busy →
             (member.new.machine ≡ member.old.machine)
-            × (place.new.seat.me.0.found ≡ (
-              word_at (link_no member.old.peers (member.old.peers - 1) member.old.number),
-              number_in Out,
-            ))) }
+            × FoundWord place.old.seat.me place.new.seat.me
+            (link_no member.old.peers (member.old.peers - 1) member.old.number) Out) }
+        ensures looked { HasLooked place.old.seat.me place.new.seat.me
+            (link_no member.old.peers (member.old.peers - 1) member.old.number) }
     {
         let link = self.link(member.peers - 1, member.number, member.peers);
         match self.take_laden(member, place, link) {
@@ -253,10 +259,9 @@ impl<M: SavingMachine> Board<M> {
         ensures busy { IfOk result (λ how. how ≡ Told.Busy →
             (member.new.machine ≡ member.old.machine)
             × (word : LinkWord) × (word ≢ Bare) ×
-            (place.new.seat.me.0.found ≡ (
-              word_at (link_no member.old.peers member.old.number (member.old.peers - 1)),
-              number_in word,
-            ))) }
+            FoundWord place.old.seat.me place.new.seat.me
+            (link_no member.old.peers member.old.number (member.old.peers - 1)) word) }
+        ensures sees { Sees place.old.seat.me place.new.seat.me }
     {
         if !member.machine.has_report() {
             return Ok(Told::Nothing);
@@ -290,7 +295,7 @@ impl<M: SavingMachine> Board<M> {
         ensures taken { result ≡ Laden →
             HasTakenLink M.represents member.now link place.new.seat.me }
         ensures missed { result ≢ Laden → Sits M.represents member.now place.new.seat.me }
-        ensures found { place.new.seat.me.0.found ≡ (word_at link, number_in result) }
+        ensures found { FoundWord place.old.seat.me place.new.seat.me link result }
     {
         let word = self.table.look(place, link);
         if word != LinkWord::Laden {
@@ -309,7 +314,8 @@ impl<M: SavingMachine> Board<M> {
             HasTakenLink M.represents member.now link place.new.seat.me }
         ensures missed { result ≡ false → Sits M.represents member.now place.new.seat.me }
         ensures found { result ≡ false → (word : LinkWord) × (word ≢ Bare) ×
-            (place.new.seat.me.0.found ≡ (word_at link, number_in word)) }
+            FoundWord place.old.seat.me place.new.seat.me link word }
+        ensures sees { Sees place.old.seat.me place.new.seat.me }
     {
         let found = self.take(member, place, link, LinkWord::Bare);
         match found {
@@ -335,7 +341,8 @@ impl<M: SavingMachine> Board<M> {
             HasTakenLink M.represents member.now link place.new.seat.me }
         ensures missed { result ≡ false → Sits M.represents member.now place.new.seat.me }
         ensures found { result ≡ false → (word : LinkWord) × (word ≢ Bare) ×
-            (place.new.seat.me.0.found ≡ (word_at link, number_in word)) }
+            FoundWord place.old.seat.me place.new.seat.me link word }
+        ensures sees { Sees place.old.seat.me place.new.seat.me }
     {
         match self.take(member, place, link, LinkWord::Laden) {
             LinkWord::Laden => true,
@@ -363,7 +370,8 @@ impl<M: SavingMachine> Board<M> {
         ensures taken { result ≡ expected →
             HasTakenLink M.represents member.now link place.new.seat.me }
         ensures missed { result ≢ expected → Sits M.represents member.now place.new.seat.me }
-        ensures found { place.new.seat.me.0.found ≡ (word_at link, number_in result) }
+        ensures found { place.new.seat.me.0.seen ≡
+            sight (word_at link) (number_in result) None ∷ place.old.seat.me.0.seen }
     {
         self.table
             .take::<Brand, Member<M>>(place, link, expected, member)
@@ -391,7 +399,10 @@ impl<M: SavingMachine> Board<M> {
             (Node (at_rest member.now)) queue }
         ensures table { place.new.seat.table_id ≡ place.old.seat.table_id }
         ensures sits { Sits M.represents member.now place.new.seat.me }
-        ensures found { place.new.seat.me.0.found ≡ place.old.seat.me.0.found }
+        ensures gave { (old : Member M) (q r : LinkView) →
+            HoldsLink place.old.seat.me (Node (at_rest old)) [] link q r →
+            HadQueue place.old.seat.me place.new.seat.me link q }
+        ensures sees { Sees place.old.seat.me place.new.seat.me }
     {
         let word = word_of(&queue);
         self.table.exchange(place, link, queue);

@@ -43,7 +43,8 @@ pub(crate) fn hear_one(coordinator: &mut Coordinator, queue: &mut Link, from: Ma
     ensures heard { result ≡ true → (message : Message) ×
         (queue.old.messages ≡ message_view message ∷ queue.new.messages) ×
         HasTakenReport coordinator.old coordinator.new from.0 (message_view message) }
-    ensures none { result ≡ false → coordinator.new ≡ coordinator.old }
+    ensures none { result ≡ false → (coordinator.new ≡ coordinator.old) ×
+        (queue.old.messages ≡ []) }
 {
     match queue.take() {
         Some(message) => {

@@ -1,11 +1,11 @@
 //! What the coordinator's seat tells machines and hears of them.
-ghost use Rattle.std.specs.Prelude.{◌≡◌, ◌≢◌, ◌⊎◌, ◌*◌, ◌^◌, ◌<◌, ℕ, suc, true, false, List, None, Some, IfOk, slice_index_or};
+ghost use Rattle.std.specs.Prelude.{◌≡◌, ◌≢◌, ◌⊎◌, ◌∷◌, ◌*◌, ◌^◌, ◌<◌, ℕ, suc, true, false, List, None, Some, IfOk, slice_index_or};
 ghost use Rattle.cluster_step.specs.clusters.Links.{LinkView};
 ghost use Rattle.coordinator.specs.coord_core.Calls.{HasHandedOver, HasTakenReport, MayReport};
 ghost use Rattle.coordinator.specs.coord_core.Coordinators.{no_outbox};
 ghost use Rattle.coordinator.specs.machine_api.Promises.{message_view};
 ghost use Rattle.link_tables.specs.Rule.{CarriesLink};
-ghost use Rattle.link_tables.specs.Seats.{HoldsLink, number_in, word_at};
+ghost use Rattle.link_tables.specs.Seats.{HoldsLink, number_in, sight, word_at};
 ghost use Rattle.link_tables.specs.declared.words.LinkWord.{LinkWord};
 ghost use Rattle.link_tables.specs.declared.words.LinkWord.TheVariants.{Bare, Laden, Out};
 ghost use Rattle.wire.specs.declared.wire_msgs.messages.Message.{Message};
@@ -13,6 +13,7 @@ ghost use Rattle.wire.specs.outboxes.Outboxes.{has_waiting};
 ghost use Rattle.wire_board.specs.Led.{HasBeenLed, Lead, link_no, number_of};
 ghost use Rattle.wire_board.specs.Openings.{standing_parts};
 ghost use Rattle.wire_board.specs.Seats.{HasTakenLead, Leads};
+ghost use Rattle.wire_board.specs.Sights.{FoundBare, FoundWord, HadQueue, HasLooked, Sees};
 
 use crate::boards::{Board, word_of};
 use crate::passing::{Heard, Told};
@@ -50,8 +51,9 @@ impl<M: SavingMachine> Board<M> {
         ensures busy { IfOk result (λ how. how ≡ Told.Busy →
             (lead.new.coordinator ≡ lead.old.coordinator)
             × (word : LinkWord) × (word ≢ Laden) ×
-            (place.new.seat.me.0.found ≡
-            (word_at (link_no (suc lead.old.number) lead.old.number to.0), number_in word))) }
+            FoundWord place.old.seat.me place.new.seat.me
+            (link_no (suc lead.old.number) lead.old.number to.0) word) }
+        ensures sees { Sees place.old.seat.me place.new.seat.me }
     {
         if !lead.coordinator.waits(to) {
             return Ok(Told::Nothing);
@@ -70,8 +72,8 @@ impl<M: SavingMachine> Board<M> {
         }
     }
 
-    /// Takes the first report of a machine off the link from it. `Busy` comes only where another
-    /// seat has the link.
+    /// Takes the first report of a machine off the link from it. `Empty` comes only where none is
+    /// there, and `Busy` only where another seat has the link.
     pub fn hear_report(
         &self,
         alloc: Global,
@@ -92,12 +94,13 @@ impl<M: SavingMachine> Board<M> {
             MayReport lead.old.coordinator from.0 (message_view message) ×
             HasTakenReport lead.old.coordinator lead.new.coordinator from.0 (message_view message) }
         ensures empty { result ≡ Heard.Empty → (lead.new.coordinator ≡ lead.old.coordinator)
-            × (word : LinkWord) × (word ≢ Out) ×
-            (place.new.seat.me.0.found ≡
-            (word_at (link_no (suc lead.old.number) from.0 lead.old.number), number_in word)) }
-        ensures busy { result ≡ Heard.Busy → (lead.new.coordinator ≡ lead.old.coordinator) ×
-            (place.new.seat.me.0.found ≡
-            (word_at (link_no (suc lead.old.number) from.0 lead.old.number), number_in Out)) }
+            × FoundBare place.old.seat.me place.new.seat.me
+            (link_no (suc lead.old.number) from.0 lead.old.number) }
+        ensures busy { result ≡ Heard.Busy → (lead.new.coordinator ≡ lead.old.coordinator)
+            × FoundWord place.old.seat.me place.new.seat.me
+            (link_no (suc lead.old.number) from.0 lead.old.number) Out }
+        ensures looked { HasLooked place.old.seat.me place.new.seat.me
+            (link_no (suc lead.old.number) from.0 lead.old.number) }
     {
         let link = self.link(from.0 as usize, lead.number, lead.number + 1);
         match self.take_lead(lead, place, link, LinkWord::Laden) {
@@ -128,7 +131,8 @@ impl<M: SavingMachine> Board<M> {
         ensures missed { result ≡ false → (others : List (Seated M)) →
             Leads lead.now others place.old.seat.me → Leads lead.now others place.new.seat.me }
         ensures found { result ≡ false → (word : LinkWord) × (word ≢ Laden) ×
-            (place.new.seat.me.0.found ≡ (word_at link, number_in word)) }
+            FoundWord place.old.seat.me place.new.seat.me link word }
+        ensures sees { Sees place.old.seat.me place.new.seat.me }
     {
         match self.take_lead(lead, place, link, LinkWord::Bare) {
             LinkWord::Bare => true,
@@ -158,7 +162,8 @@ impl<M: SavingMachine> Board<M> {
             HasTakenLead M.represents lead.now others link place.new.seat.me }
         ensures missed { result ≢ expected → (others : List (Seated M)) →
             Leads lead.now others place.old.seat.me → Leads lead.now others place.new.seat.me }
-        ensures found { place.new.seat.me.0.found ≡ (word_at link, number_in result) }
+        ensures found { place.new.seat.me.0.seen ≡
+            sight (word_at link) (number_in result) None ∷ place.old.seat.me.0.seen }
     {
         self.table
             .take::<Brand, Leading>(place, link, expected, lead)
@@ -185,7 +190,10 @@ impl<M: SavingMachine> Board<M> {
             self.now.table.table.shared.key.about.machines) link (Lead old)
             q (Lead lead.now) queue }
         ensures table { place.new.seat.table_id ≡ place.old.seat.table_id }
-        ensures found { place.new.seat.me.0.found ≡ place.old.seat.me.0.found }
+        ensures gave { (old : Leading) (others : List (Seated M)) (q r : LinkView) →
+            HoldsLink place.old.seat.me (Lead old) others link q r →
+            HadQueue place.old.seat.me place.new.seat.me link q }
+        ensures sees { Sees place.old.seat.me place.new.seat.me }
         ensures sits { (old : Leading) (others : List (Seated M)) (q r : LinkView) →
             HoldsLink place.old.seat.me (Lead old) others link q r →
             Leads lead.now others place.new.seat.me }

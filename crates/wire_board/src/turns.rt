@@ -1,7 +1,10 @@
 //! A machine's turn on a board.
-ghost use Rattle.std.specs.Prelude.{◌≡◌, ◌≢◌, ◌+◌, ◌-◌, ◌*◌, ◌^◌, ◌<◌, ℕ, suc, true, false, slice_index_or, IfSome, OnOk};
+ghost use Rattle.std.specs.Prelude.{◌≡◌, ◌≢◌, ◌+◌, ◌-◌, ◌*◌, ◌^◌, ◌<◌, ◌≤◌, ℕ, suc, true, false, slice_index_or, None, IfNone, IfOk, IfSome, OnOk};
+ghost use Rattle.link_tables.specs.Seats.{sight, word_at};
 ghost use Rattle.wire_board.specs.Freeing.{IsFree};
+ghost use Rattle.wire_board.specs.Led.{link_no};
 ghost use Rattle.wire_board.specs.Seats.{Sits};
+ghost use Rattle.wire_board.specs.Sights.{FoundNothing, HasLooked, HasSeen, Sees};
 
 use crate::boards::Board;
 use crate::failing::is_free;
@@ -31,9 +34,10 @@ pub enum Worked {
 }
 
 impl<M: EagerMachine> Board<M> {
-    /// A machine's turn: it hears what has come, works, tells what waits, and where it has reached
-    /// the count of no failure it hears the coordinator. Says how its work has gone. For want of
-    /// memory nothing is said of the seat.
+    /// A machine's turn: it looks at the link from each machine and hears what has come, works,
+    /// tells what waits, and where it has reached the count of no failure it hears the coordinator.
+    /// Says how its work has gone; `Nothing` comes only where it has heard nothing, and `Spent` only
+    /// where it has seen that no ticket is left. For want of memory nothing is said of the seat.
     pub fn turn(
         &self,
         alloc: Global,
@@ -54,17 +58,22 @@ impl<M: EagerMachine> Board<M> {
         ensures sits { OnOk result (Sits M.represents member.new place.new.seat.me) }
         ensures same { (member.new.number ≡ member.old.number) ×
             (member.new.peers ≡ member.old.peers) }
+        ensures looked { OnOk result ((from : ℕ) → suc from < member.old.peers →
+            HasLooked place.old.seat.me place.new.seat.me
+            (link_no member.old.peers from member.old.number)) }
+        ensures spent { IfOk result (λ worked. worked ≡ Worked.Spent → (next : ℕ) ×
+            (self.now.table.top ≤ next) × HasSeen place.old.seat.me place.new.seat.me
+            (sight (word_at self.now.table.many) next None)) }
+        ensures nothing { IfOk result (λ worked. worked ≡ Worked.Nothing → (from : ℕ) →
+            suc from < member.old.peers → FoundNothing place.old.seat.me place.new.seat.me
+            (link_no member.old.peers from member.old.number)) }
     {
         let heard = self.hear_each(alloc, member, place)?;
         let settled = self.settle(member, place)?;
         let worked = self.work_on(member, place, failures, before)?;
         let told = self.tell_each(alloc, member, place)?;
         let called = self.call_and_report(alloc, member, place, failures, before)?;
-        if worked == Worked::Nothing && (heard || settled || told || called) {
-            Ok(Worked::Some)
-        } else {
-            Ok(worked)
-        }
+        Ok(behind(worked, heard, settled || told || called))
     }
 
     /// Hears what has come from the machines. Says whether anything has.
@@ -83,13 +92,18 @@ impl<M: EagerMachine> Board<M> {
         ensures sits { OnOk result (Sits M.represents member.new place.new.seat.me) }
         ensures same { (member.new.number ≡ member.old.number) ×
             (member.new.peers ≡ member.old.peers) }
+        ensures looked { OnOk result ((from : ℕ) → suc from < member.old.peers →
+            HasLooked place.old.seat.me place.new.seat.me
+            (link_no member.old.peers from member.old.number)) }
+        ensures sees { OnOk result (Sees place.old.seat.me place.new.seat.me) }
+        ensures nothing { IfOk result (λ moved. moved ≡ false → (from : ℕ) →
+            suc from < member.old.peers → FoundNothing place.old.seat.me place.new.seat.me
+            (link_no member.old.peers from member.old.number)) }
     {
         let mut moved = false;
         for from in 0..member.peers - 1 {
             let how = self.hear(alloc, member, place, MachineNo(from as u16))?;
-            if how == Heard::Applied {
-                moved = true;
-            }
+            moved = has_moved(moved, how);
         }
         Ok(moved)
     }
@@ -110,6 +124,7 @@ impl<M: EagerMachine> Board<M> {
         ensures sits { OnOk result (Sits M.represents member.new place.new.seat.me) }
         ensures same { (member.new.number ≡ member.old.number) ×
             (member.new.peers ≡ member.old.peers) }
+        ensures sees { OnOk result (Sees place.old.seat.me place.new.seat.me) }
     {
         let mut moved = false;
         for to in 0..member.peers - 1 {
@@ -143,6 +158,7 @@ impl<M: EagerMachine> Board<M> {
         ensures sits { OnOk result (Sits M.represents member.new place.new.seat.me) }
         ensures same { (member.new.number ≡ member.old.number) ×
             (member.new.peers ≡ member.old.peers) }
+        ensures sees { OnOk result (Sees place.old.seat.me place.new.seat.me) }
     {
         let told = self.tell_report(alloc, member, place)?;
         if !is_free(failures, member, before) {
@@ -154,7 +170,7 @@ impl<M: EagerMachine> Board<M> {
 
     /// Does all that may be done without a ticket and without a message. Says whether there was
     /// something.
-    fn settle(
+    pub(crate) fn settle(
         &self,
         member: &mut Member<M>,
         place: &Place<Seated<M>, Link>,
@@ -186,6 +202,10 @@ impl<M: EagerMachine> Board<M> {
         ensures sits { OnOk result (Sits M.represents member.new place.new.seat.me) }
         ensures same { (member.new.number ≡ member.old.number) ×
             (member.new.peers ≡ member.old.peers) }
+        ensures sees { OnOk result (Sees place.old.seat.me place.new.seat.me) }
+        ensures spent { IfOk result (λ worked. worked ≡ Worked.Spent → (next : ℕ) ×
+            (self.now.table.top ≤ next) × HasSeen place.old.seat.me place.new.seat.me
+            (sight (word_at self.now.table.many) next None)) }
     {
         for steps in 0..STEPS_IN_A_TURN {
             if !is_free(failures, member, before) {
@@ -202,7 +222,7 @@ impl<M: EagerMachine> Board<M> {
 
     /// Makes a ready update; or else updates a vertex at once; or else admits a scope, which goes
     /// as far as it may. The machine has reached the count of no failure.
-    fn work(
+    pub(crate) fn work(
         &self,
         member: &mut Member<M>,
         place: &mut Place<Seated<M>, Link>,
@@ -217,6 +237,10 @@ impl<M: EagerMachine> Board<M> {
         ensures sits { OnOk result (Sits M.represents member.new place.new.seat.me) }
         ensures same { (member.new.number ≡ member.old.number) ×
             (member.new.peers ≡ member.old.peers) }
+        ensures sees { OnOk result (Sees place.old.seat.me place.new.seat.me) }
+        ensures spent { IfOk result (λ worked. worked ≡ Worked.Spent → (next : ℕ) ×
+            (self.now.table.top ≤ next) × HasSeen place.old.seat.me place.new.seat.me
+            (sight (word_at self.now.table.many) next None)) }
     {
         if let Some(scope) = member.machine.next_update() {
             let Some(ticket) = self.look_for_ticket(member, place) else {
@@ -245,6 +269,7 @@ impl<M: EagerMachine> Board<M> {
         ensures sits { OnOk result (Sits M.represents member.new place.now.seat.me) }
         ensures same { (member.new.number ≡ member.old.number) ×
             (member.new.peers ≡ member.old.peers) }
+        ensures unspent { IfOk result (λ worked. worked ≢ Worked.Spent) }
     {
         if !admit_one(&mut member.machine)? {
             return Ok(Worked::Nothing);
@@ -260,7 +285,31 @@ impl<M: EagerMachine> Board<M> {
         ensures table { place.new.seat.table_id ≡ place.old.seat.table_id }
         ensures sits { Sits M.represents member.now place.new.seat.me }
         ensures ticket { IfSome result (λ ticket. ticket < self.now.table.top) }
+        ensures sees { Sees place.old.seat.me place.new.seat.me }
+        ensures spent { IfNone result ((next : ℕ) × (self.now.table.top ≤ next) ×
+            HasSeen place.old.seat.me place.new.seat.me
+            (sight (word_at self.now.table.many) next None)) }
     {
         self.next_ticket(place)
+    }
+}
+
+/// Whether anything has come, also of what was heard last.
+fn has_moved(moved: bool, how: Heard) -> bool
+    ensures { result ≡ false → (moved ≡ false) × (how ≢ Heard.Applied) }
+{
+    moved || how == Heard::Applied
+}
+
+/// How the work has gone behind what was heard and what else was done: where there was something,
+/// it isn't `Nothing`.
+fn behind(worked: Worked, heard: bool, done: bool) -> Worked
+    ensures nothing { result ≡ Worked.Nothing → heard ≡ false }
+    ensures same { result ≢ Worked.Some → result ≡ worked }
+{
+    if worked == Worked::Nothing && (heard || done) {
+        Worked::Some
+    } else {
+        worked
     }
 }

@@ -32,4 +32,4 @@ returns-clause-rests c =
     let same : c.take-word.result ≡ Laden = search rules in
     let t = c.take-word.ensures.taken same node refl in
     let taken = holds_taken _ _ node node [] c.args.link t.0 _ c.requires.rests t.1 in
-    rests_given _ _ node node [] c.args.link t.0 _ (holds_another _ _ node [] c.args.link t.0 _ _ taken c.exchange-queue.ensures.now) (c.give.ensures.given node refl)
+    rests_given _ _ node node [] c.args.link t.0 _ _ (holds_another _ _ node [] c.args.link t.0 _ _ taken c.exchange-queue.ensures.now) (c.give.ensures.given node refl)

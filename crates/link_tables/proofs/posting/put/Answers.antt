@@ -41,7 +41,7 @@ returns-in_err-filled-clause-rests c =
     let rest = rests_on _ _ node [] _ _ c.requires.rests c.look-word.ensures.found in
     let taken = holds_taken _ _ node node [] c.args.link t.0 _ rest t.1 in
     let first = holds_another _ _ node [] c.args.link t.0 _ _ taken c.exchange-queue.ensures.now in
-    rests_given _ _ node node [] c.args.link t.0 _ (holds_another _ _ node [] c.args.link t.0 _ _ first c.exchange.ensures.now) (c.give.ensures.given node refl)
+    rests_given _ _ node node [] c.args.link t.0 _ _ (holds_another _ _ node [] c.args.link t.0 _ _ first c.exchange.ensures.now) (c.give.ensures.given node refl)
 
 pub returns-clause-rests : goal.returns-clause-rests
 returns-clause-rests c =
@@ -51,4 +51,4 @@ returns-clause-rests c =
     let rest = rests_on _ _ node [] _ _ c.requires.rests c.look-word.ensures.found in
     let taken = holds_taken _ _ node node [] c.args.link t.0 _ rest t.1 in
     let first = holds_another _ _ node [] c.args.link t.0 _ _ taken c.exchange-queue.ensures.now in
-    rests_given _ _ node node [] c.args.link t.0 _ (holds_another _ _ node [] c.args.link t.0 _ _ first c.exchange.ensures.now) (c.give.ensures.given node refl)
+    rests_given _ _ node node [] c.args.link t.0 _ _ (holds_another _ _ node [] c.args.link t.0 _ _ first c.exchange.ensures.now) (c.give.ensures.given node refl)

@@ -40,7 +40,7 @@ returns-in-Some-mail-clause-rests g c =
     let same : c.take-word.result ≡ Laden = search rules in
     let t = c.take-word.ensures.taken same node refl in
     let taken = holds_taken _ _ node node [] 0 t.0 _ c.loop.invariant.rests t.1 in
-    rests_given _ _ node node [] 0 t.0 _ (holds_another _ _ node [] 0 t.0 _ _ taken c.exchange-mail.ensures.now) (c.give.ensures.given node refl)
+    rests_given _ _ node node [] 0 t.0 _ _ (holds_another _ _ node [] 0 t.0 _ _ taken c.exchange-mail.ensures.now) (c.give.ensures.given node refl)
 
 pub returns-in-Some-mail-clause-few : goal.returns-in-Some-mail-clause-few
 returns-in-Some-mail-clause-few g c =
@@ -57,5 +57,5 @@ loop-preserved-in_default g c =
     let taken = holds_taken _ _ node node [] 0 t.0 _ c.loop.invariant.rests t.1 in
     record {
       table = search rules;
-      rests = rests_given _ _ node node [] 0 t.0 _ (holds_another _ _ node [] 0 t.0 _ _ taken c.exchange-mail.ensures.now) (c.give.ensures.given node refl);
+      rests = rests_given _ _ node node [] 0 t.0 _ _ (holds_another _ _ node [] 0 t.0 _ _ taken c.exchange-mail.ensures.now) (c.give.ensures.given node refl);
     }

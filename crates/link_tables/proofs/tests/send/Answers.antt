@@ -41,4 +41,4 @@ returns-then-eq-clause-rests g c =
     let t = c.take.ensures.taken same node refl in
     let rest = rests_on _ _ node [] _ _ c.loop.invariant.rests c.look-word.ensures.found in
     let taken = holds_taken _ _ node node [] 0 t.0 _ rest t.1 in
-    rests_given _ _ node node [] 0 t.0 _ (holds_another _ _ node [] 0 t.0 _ _ taken c.exchange.ensures.now) (c.give.ensures.given node refl)
+    rests_given _ _ node node [] 0 t.0 _ _ (holds_another _ _ node [] 0 t.0 _ _ taken c.exchange.ensures.now) (c.give.ensures.given node refl)

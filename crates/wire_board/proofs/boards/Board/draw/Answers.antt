@@ -1,4 +1,5 @@
 use Rattle.std.proofs.Common.{[], ap, refl, subst, sym, ◌∙◌, ℕ}
+use Rattle.link_tables.proofs.Seeing.{seen_changed, seen_one, seen_sees, sees_one}
 use Rattle.link_tables.proofs.Standing.{rests_changed}
 use Rattle.link_tables.specs.Seats.{saw, word_at}
 use Rattle.wire_board.proofs.Places.{sits_changed, sits_read}
@@ -33,7 +34,7 @@ returns-then-not-won-clause-sits g c =
     (late.2 ∙ (λ i. (saw c.args.place.now.seat.me.0 (word_at c.args.self.now.table.many) late.0, sym s.rests.slots i)))
 
 pub returns-then-not-won-clause-late : goal.returns-then-not-won-clause-late
-returns-then-not-won-clause-late g c = λ is. let late = c.draw-won.ensures.late c.if-not-won.true in (refl, late.0, late.1, ap (λ me. me.0.found) late.2)
+returns-then-not-won-clause-late g c = λ is. let late = c.draw-won.ensures.late c.if-not-won.true in (refl, late.0, late.1, seen_one c.args.place.now.seat.me c.draw-won.new.place.seat.me _ (ap (λ me. me.0.seen) late.2))
 
 pub returns-in-Ok-clause-sits : goal.returns-in-Ok-clause-sits
 returns-in-Ok-clause-sits g c =
@@ -48,7 +49,7 @@ returns-in-Ok-clause-sits g c =
 pub returns-in-Ok-clause-made : goal.returns-in-Ok-clause-made
 returns-in-Ok-clause-made g c =
     λ is.
-    (c.in-Ok.ensures.updated, ap (λ me. me.0.found) (c.draw-won.ensures.drawn c.if-not-won.false (Node (owing c.args.member.now c.args.scope c.args.ticket)) refl))
+    (c.in-Ok.ensures.updated, seen_changed c.args.place.now.seat.me c.draw-won.new.place.seat.me (Node (owing c.args.member.now c.args.scope c.args.ticket)) _ _ (c.draw-won.ensures.drawn c.if-not-won.false (Node (owing c.args.member.now c.args.scope c.args.ticket)) refl))
 
 pub returns-in-Err-clause-owes : goal.returns-in-Err-clause-owes
 returns-in-Err-clause-owes g c =
@@ -57,3 +58,16 @@ returns-in-Err-clause-owes g c =
       c.in-Err.ensures.unchanged,
       rests_changed c.args.place.now.seat.me c.draw-won.new.place.seat.me (Node s.was) (Node owed) [] _ s.rests (c.draw-won.ensures.drawn c.if-not-won.false (Node owed) refl),
     )
+
+pub returns-then-not-won-clause-sees : goal.returns-then-not-won-clause-sees
+returns-then-not-won-clause-sees g c = sees_one c.args.place.now.seat.me c.draw-won.new.place.seat.me _ (ap (λ me. me.0.seen) (c.draw-won.ensures.late c.if-not-won.true).2)
+
+pub returns-in-Ok-clause-sees : goal.returns-in-Ok-clause-sees
+returns-in-Ok-clause-sees g c =
+    let won = seen_changed c.args.place.now.seat.me c.draw-won.new.place.seat.me (Node (owing c.args.member.now c.args.scope c.args.ticket)) _ _ (c.draw-won.ensures.drawn c.if-not-won.false (Node (owing c.args.member.now c.args.scope c.args.ticket)) refl) in
+    seen_sees c.args.place.now.seat.me c.draw-won.new.place.seat.me _ won
+
+pub returns-in-Err-clause-sees : goal.returns-in-Err-clause-sees
+returns-in-Err-clause-sees g c =
+    let won = seen_changed c.args.place.now.seat.me c.draw-won.new.place.seat.me (Node (owing c.args.member.now c.args.scope c.args.ticket)) _ _ (c.draw-won.ensures.drawn c.if-not-won.false (Node (owing c.args.member.now c.args.scope c.args.ticket)) refl) in
+    seen_sees c.args.place.now.seat.me c.draw-won.new.place.seat.me _ won

@@ -1,4 +1,5 @@
 use Rattle.std.proofs.Common.{[], ap, refl, subst, sym, ◌∙◌, ℕ}
+use Rattle.link_tables.proofs.Seeing.{seen_changed, seen_one, seen_sees, sees_one}
 use Rattle.link_tables.proofs.Standing.{rests_changed}
 use Rattle.link_tables.specs.Seats.{saw, word_at}
 use Rattle.wire_board.proofs.Places.{at_err, sits_changed, sits_read}
@@ -33,7 +34,7 @@ returns-then-not-won-clause-sits g c =
     (late.2 ∙ (λ i. (saw c.args.place.now.seat.me.0 (word_at c.args.self.now.table.many) late.0, sym s.rests.slots i)))
 
 pub returns-then-not-won-clause-late : goal.returns-then-not-won-clause-late
-returns-then-not-won-clause-late g c = λ is. let late = c.draw-won.ensures.late c.if-not-won.true in (refl, late.0, late.1, ap (λ me. me.0.found) late.2)
+returns-then-not-won-clause-late g c = λ is. let late = c.draw-won.ensures.late c.if-not-won.true in (refl, late.0, late.1, seen_one c.args.place.now.seat.me c.draw-won.new.place.seat.me _ (ap (λ me. me.0.seen) late.2))
 
 pub returns-in_err-update_now-clause-owes : goal.returns-in_err-update_now-clause-owes
 returns-in_err-update_now-clause-owes g c =
@@ -57,4 +58,17 @@ returns-clause-sits g c =
 pub returns-clause-made : goal.returns-clause-made
 returns-clause-made g c =
     λ is.
-    (c.in_ok-update_now.ensures.updated, ap (λ me. me.0.found) (c.draw-won.ensures.drawn c.if-not-won.false (Node (owing_at_once c.args.member.now c.args.v c.args.ticket)) refl))
+    (c.in_ok-update_now.ensures.updated, seen_changed c.args.place.now.seat.me c.draw-won.new.place.seat.me (Node (owing_at_once c.args.member.now c.args.v c.args.ticket)) _ _ (c.draw-won.ensures.drawn c.if-not-won.false (Node (owing_at_once c.args.member.now c.args.v c.args.ticket)) refl))
+
+pub returns-then-not-won-clause-sees : goal.returns-then-not-won-clause-sees
+returns-then-not-won-clause-sees g c = sees_one c.args.place.now.seat.me c.draw-won.new.place.seat.me _ (ap (λ me. me.0.seen) (c.draw-won.ensures.late c.if-not-won.true).2)
+
+pub returns-clause-sees : goal.returns-clause-sees
+returns-clause-sees g c =
+    let won = seen_changed c.args.place.now.seat.me c.draw-won.new.place.seat.me (Node (owing_at_once c.args.member.now c.args.v c.args.ticket)) _ _ (c.draw-won.ensures.drawn c.if-not-won.false (Node (owing_at_once c.args.member.now c.args.v c.args.ticket)) refl) in
+    seen_sees c.args.place.now.seat.me c.draw-won.new.place.seat.me _ won
+
+pub returns-in_err-update_now-clause-sees : goal.returns-in_err-update_now-clause-sees
+returns-in_err-update_now-clause-sees g c =
+    let won = seen_changed c.args.place.now.seat.me c.draw-won.new.place.seat.me (Node (owing_at_once c.args.member.now c.args.v c.args.ticket)) _ _ (c.draw-won.ensures.drawn c.if-not-won.false (Node (owing_at_once c.args.member.now c.args.v c.args.ticket)) refl) in
+    seen_sees c.args.place.now.seat.me c.draw-won.new.place.seat.me _ won

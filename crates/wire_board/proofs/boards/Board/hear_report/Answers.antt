@@ -1,15 +1,18 @@
-use Rattle.std.proofs.Common.{add-one, ap, refl, subst, suc, sym, ⊎_elim, ◌∙◌, ◌∷◌, ◌≡◌, ℕ}
+use Rattle.std.proofs.Common.{add-one, ap, inl, inr, refl, subst, suc, sym, ⊎_elim, ◌∙◌, ◌∷◌, ◌≡◌, ℕ}
 use Rattle.coordinator.specs.coord_core.Calls.{HasTakenReport, StaysCoordinator}
 use Rattle.coordinator.specs.machine_api.Promises.{message_view}
+use Rattle.link_tables.proofs.Seeing.{seen_one, sees_one, sees_same, sees_then}
 use Rattle.link_tables.specs.Rule.{CarriesLink}
-use Rattle.link_tables.specs.Seats.{number_in, word_at}
+use Rattle.link_tables.specs.declared.words.LinkWord.{LinkWord}
 use Rattle.wire.specs.declared.wire_msgs.messages.Message.{Message}
 use Rattle.wire_board.proofs.LeadPlaces.{lead_holds_now, lead_queue_is}
 use Rattle.wire_board.proofs.Leads.{carries_no_report, carries_report_heard}
 use Rattle.wire_board.specs.Led.{HasBeenLed, Lead, Leading, LinkView, link_no, number_of}
+use Rattle.wire_board.proofs.Sighting.{bare_then, looked_then, then_had}
 use Rattle.wire_board.specs.Openings.{standing_parts}
+use Rattle.wire_board.specs.Sights.{FoundWord, HadQueue, HasLooked}
 use Rattle.wire_board.proofs.boards.Board.hear_report.Goals as goal
-use Rattle.link_tables.specs.declared.words.LinkWord.TheVariants.{Bare, Laden}
+use Rattle.link_tables.specs.declared.words.LinkWord.TheVariants.{Bare, Out}
 
 pub returns-in-Bare-clause-sits : goal.returns-in-Bare-clause-sits
 returns-in-Bare-clause-sits g c = let is = c.in-Bare.is in λ others s. c.take_lead.ensures.missed (λ e. cc) others s
@@ -81,30 +84,42 @@ returns-else-some-clause-sits g c =
 pub returns-in-Bare-clause-empty : goal.returns-in-Bare-clause-empty
 returns-in-Bare-clause-empty g c =
     λ same.
+    let old = c.args.place.now.seat.me in
+    let new = c.take_lead.new.place.seat.me in
     let number : c.link-link.result ≡ link_no (suc c.args.lead.now.number) c.args.from.0 c.args.lead.now.number =
     c.link-link.ensures.number ∙ ap (λ (k : ℕ). link_no k c.args.from.0 c.args.lead.now.number) (add-one c.args.lead.now.number)
     in
-    (refl, Bare, (λ e. cc), c.take_lead.ensures.found ∙ (λ i. (word_at (number i), number_in (c.in-Bare.is i))))
+    (refl, inl (subst (λ (i : ℕ). FoundWord old new i Bare) number (subst (λ (w : LinkWord). FoundWord old new c.link-link.result w) c.in-Bare.is (seen_one old new _ c.take_lead.ensures.found))))
 
 pub returns-in-Out-clause-busy : goal.returns-in-Out-clause-busy
 returns-in-Out-clause-busy g c =
     λ same.
+    let old = c.args.place.now.seat.me in
+    let new = c.take_lead.new.place.seat.me in
     let number : c.link-link.result ≡ link_no (suc c.args.lead.now.number) c.args.from.0 c.args.lead.now.number =
     c.link-link.ensures.number ∙ ap (λ (k : ℕ). link_no k c.args.from.0 c.args.lead.now.number) (add-one c.args.lead.now.number)
     in
-    (refl, c.take_lead.ensures.found ∙ (λ i. (word_at (number i), number_in (c.in-Out.is i))))
+    (refl, subst (λ (i : ℕ). FoundWord old new i Out) number (subst (λ (w : LinkWord). FoundWord old new c.link-link.result w) c.in-Out.is (seen_one old new _ c.take_lead.ensures.found)))
 
 pub returns-else-some-clause-empty : goal.returns-else-some-clause-empty
 returns-else-some-clause-empty g c =
     λ same.
     let number : c.link-link.result ≡ link_no (suc c.args.lead.now.number) c.args.from.0 c.args.lead.now.number =
     c.link-link.ensures.number ∙ ap (λ (k : ℕ). link_no k c.args.from.0 c.args.lead.now.number) (add-one c.args.lead.now.number)
-    in (
-      c.hear_one-some.ensures.none c.if-some.false,
-      Laden,
-      (λ e. cc),
-      c.give_back_lead.ensures.found ∙ ap (λ me. me.0.found) c.exchange-queue.ensures.now ∙ c.take_lead.ensures.found ∙ (λ i. (word_at (number i), number_in (c.in-Laden.is i))),
-    )
+    in
+    let represents = g.M.SavingMachine.represents in
+    let lead = c.args.lead.now in
+    let others = c.requires.sits.0 in
+    let old = c.args.place.now.seat.me in
+    let taken = c.take_lead.new.place.seat.me in
+    let out = c.exchange-queue.new.place.seat.me in
+    let new = c.give_back_lead.new.place.seat.me in
+    let t = c.take_lead.ensures.taken c.in-Laden.is others c.requires.sits.1 in
+    let is : t.queue ≡ c.exchange-queue.result = lead_queue_is lead others represents taken out c.link-link.result _ c.exchange-queue.result t c.exchange-queue.ensures.now c.exchange-queue.ensures.was in
+    let none = c.hear_one-some.ensures.none c.if-some.false in
+    let sees = sees_then old taken out (sees_one old taken _ c.take_lead.ensures.found) (sees_same taken out (ap (λ me. me.0.seen) c.exchange-queue.ensures.now)) in
+    let gave = c.give_back_lead.ensures.gave lead others t.queue _ (lead_holds_now lead others represents taken out c.link-link.result _ c.exchange-queue.result t c.exchange-queue.ensures.now c.exchange-queue.ensures.was) in
+    (none.0, inr (t.queue, bare_then t.queue c.exchange-queue.result is none.1, subst (λ (i : ℕ). HadQueue old new i t.queue) number (then_had old out new c.link-link.result t.queue sees gave)))
 
 pub returns-then-some-clause-applied : goal.returns-then-some-clause-applied
 returns-then-some-clause-applied g c =
@@ -120,3 +135,45 @@ returns-then-some-clause-applied g c =
           (ap (λ (l : LinkView). l.messages) is ∙ heard.1),
       heard.2,
     )
+
+pub returns-in-Bare-clause-looked : goal.returns-in-Bare-clause-looked
+returns-in-Bare-clause-looked g c =
+    let number : c.link-link.result ≡ link_no (suc c.args.lead.now.number) c.args.from.0 c.args.lead.now.number =
+    c.link-link.ensures.number ∙ ap (λ (k : ℕ). link_no k c.args.from.0 c.args.lead.now.number) (add-one c.args.lead.now.number)
+    in
+    let old = c.args.place.now.seat.me in
+    let new = c.take_lead.new.place.seat.me in
+    subst (λ (i : ℕ). HasLooked old new i) number (_, seen_one old new _ c.take_lead.ensures.found)
+
+pub returns-in-Out-clause-looked : goal.returns-in-Out-clause-looked
+returns-in-Out-clause-looked g c =
+    let number : c.link-link.result ≡ link_no (suc c.args.lead.now.number) c.args.from.0 c.args.lead.now.number =
+    c.link-link.ensures.number ∙ ap (λ (k : ℕ). link_no k c.args.from.0 c.args.lead.now.number) (add-one c.args.lead.now.number)
+    in
+    let old = c.args.place.now.seat.me in
+    let new = c.take_lead.new.place.seat.me in
+    subst (λ (i : ℕ). HasLooked old new i) number (_, seen_one old new _ c.take_lead.ensures.found)
+
+pub returns-then-some-clause-looked : goal.returns-then-some-clause-looked
+returns-then-some-clause-looked g c =
+    let number : c.link-link.result ≡ link_no (suc c.args.lead.now.number) c.args.from.0 c.args.lead.now.number =
+    c.link-link.ensures.number ∙ ap (λ (k : ℕ). link_no k c.args.from.0 c.args.lead.now.number) (add-one c.args.lead.now.number)
+    in
+    let old = c.args.place.now.seat.me in
+    let taken = c.take_lead.new.place.seat.me in
+    let out = c.exchange-queue.new.place.seat.me in
+    let new = c.give_back_lead.new.place.seat.me in
+    subst (λ (i : ℕ). HasLooked old new i) number
+    (looked_then old taken new c.link-link.result (_, seen_one old taken _ c.take_lead.ensures.found) (sees_then taken out new (sees_same taken out (ap (λ me. me.0.seen) c.exchange-queue.ensures.now)) c.give_back_lead.ensures.sees))
+
+pub returns-else-some-clause-looked : goal.returns-else-some-clause-looked
+returns-else-some-clause-looked g c =
+    let number : c.link-link.result ≡ link_no (suc c.args.lead.now.number) c.args.from.0 c.args.lead.now.number =
+    c.link-link.ensures.number ∙ ap (λ (k : ℕ). link_no k c.args.from.0 c.args.lead.now.number) (add-one c.args.lead.now.number)
+    in
+    let old = c.args.place.now.seat.me in
+    let taken = c.take_lead.new.place.seat.me in
+    let out = c.exchange-queue.new.place.seat.me in
+    let new = c.give_back_lead.new.place.seat.me in
+    subst (λ (i : ℕ). HasLooked old new i) number
+    (looked_then old taken new c.link-link.result (_, seen_one old taken _ c.take_lead.ensures.found) (sees_then taken out new (sees_same taken out (ap (λ me. me.0.seen) c.exchange-queue.ensures.now)) c.give_back_lead.ensures.sees))

@@ -1,9 +1,11 @@
-use Rattle.std.proofs.Common.{List, [], ap, append-nil, refl, subst, sym, ◌++◌, ◌∙◌, ◌≡◌, ℕ}
+use Rattle.std.proofs.Common.{List, [], ap, append-nil, length, refl, subst, sym, ◌++◌, ◌∙◌, ◌≡◌, ℕ}
 use Rattle.link_tables.specs.Rule.{CarriesLink}
 use Rattle.coordinator.specs.machine_api.Promises.{MessageView}
+use Rattle.link_tables.proofs.Seeing.{sees_same, sees_then}
 use Rattle.wire_board.proofs.HearingOn.{none_heard}
-use Rattle.wire_board.proofs.Places.{holds_now, not_empty, queue_is}
+use Rattle.wire_board.proofs.Places.{holds_now, no_length, not_empty, queue_is}
 use Rattle.wire_board.proofs.Ruling.{carries_heard}
+use Rattle.wire_board.proofs.Sighting.{then_had}
 use Rattle.wire_board.specs.Hearing.{CanHear, HasHeardAll}
 use Rattle.wire_board.specs.Led.{HasBeenLed, LinkView, number_of}
 use Rattle.wire_board.specs.Openings.{standing_parts}
@@ -69,4 +71,41 @@ returns-clause-applied g c =
       not_empty c.exchange-queue.result.messages heard.0 (sym c.is_empty.ensures ∙ c.if-is_empty.false) all,
       subst (λ (ms : List MessageView). CanHear represents member.machine c.args.from.0 member.number ms) messages (t.learns.0 c.args.from.0 c.requires.link.2 c.requires.link.1),
       subst (λ (ms : List MessageView). HasHeardAll represents member.machine c.args.from.0 member.number heard.0 ms c.hear_all-heard.new.machine) whole heard.2,
+      t.queue,
+      messages,
+      then_had c.args.place.now.seat.me c.exchange-queue.new.place.seat.me c.give_back-2.new.place.seat.me c.args.link t.queue
+          (sees_same c.args.place.now.seat.me c.exchange-queue.new.place.seat.me (ap (λ me. me.0.seen) c.exchange-queue.ensures.now))
+          (c.give_back-2.ensures.gave member t.queue _
+          (holds_now represents member c.args.place.now.seat.me c.exchange-queue.new.place.seat.me c.args.link _ c.exchange-queue.result t c.exchange-queue.ensures.now c.exchange-queue.ensures.was)),
     )
+
+pub returns-then-is_empty-clause-empty : goal.returns-then-is_empty-clause-empty
+returns-then-is_empty-clause-empty g c =
+    λ same.
+    let represents = g.M.SavingMachine.represents in
+    let member = c.args.member.now in
+    let t = c.requires.holds in
+    let is : t.queue ≡ c.exchange-queue.result = queue_is represents member c.args.place.now.seat.me c.exchange-queue.new.place.seat.me c.args.link _ c.exchange-queue.result t c.exchange-queue.ensures.now c.exchange-queue.ensures.was in (
+      refl,
+      t.queue,
+      ap (λ (l : LinkView). length l.messages) is ∙ no_length c.exchange-queue.result.messages (sym c.is_empty.ensures ∙ c.if-is_empty.true),
+      then_had c.args.place.now.seat.me c.exchange-queue.new.place.seat.me c.give_back.new.place.seat.me c.args.link t.queue
+          (sees_same c.args.place.now.seat.me c.exchange-queue.new.place.seat.me (ap (λ me. me.0.seen) c.exchange-queue.ensures.now))
+          (c.give_back.ensures.gave member t.queue _
+          (holds_now represents member c.args.place.now.seat.me c.exchange-queue.new.place.seat.me c.args.link _ c.exchange-queue.result t c.exchange-queue.ensures.now c.exchange-queue.ensures.was)),
+    )
+
+pub returns-then-is_empty-clause-sees : goal.returns-then-is_empty-clause-sees
+returns-then-is_empty-clause-sees g c =
+    sees_then c.args.place.now.seat.me c.exchange-queue.new.place.seat.me c.give_back.new.place.seat.me
+    (sees_same c.args.place.now.seat.me c.exchange-queue.new.place.seat.me (ap (λ me. me.0.seen) c.exchange-queue.ensures.now)) c.give_back.ensures.sees
+
+pub returns-clause-sees : goal.returns-clause-sees
+returns-clause-sees g c =
+    sees_then c.args.place.now.seat.me c.exchange-queue.new.place.seat.me c.give_back-2.new.place.seat.me
+    (sees_same c.args.place.now.seat.me c.exchange-queue.new.place.seat.me (ap (λ me. me.0.seen) c.exchange-queue.ensures.now)) c.give_back-2.ensures.sees
+
+pub returns-in_err-heard-clause-sees : goal.returns-in_err-heard-clause-sees
+returns-in_err-heard-clause-sees g c =
+    sees_then c.args.place.now.seat.me c.exchange-queue.new.place.seat.me c.give_back-2.new.place.seat.me
+    (sees_same c.args.place.now.seat.me c.exchange-queue.new.place.seat.me (ap (λ me. me.0.seen) c.exchange-queue.ensures.now)) c.give_back-2.ensures.sees

@@ -1,6 +1,7 @@
-use Rattle.std.proofs.Common.{refl}
+use Rattle.std.proofs.Common.{ap, refl}
 use Rattle.cluster_laws.specs.cluster_model.Events as law
 use Rattle.cluster_laws.specs.cluster_model.Leading.{puts_step}
+use Rattle.link_tables.proofs.Seeing.{sees_one, sees_same}
 use Rattle.wire_board.proofs.LeadPlaces.{leads_changed, leads_still}
 use Rattle.wire_board.proofs.Leads.{carries_led}
 use Rattle.wire_board.specs.Led.{Lead, Leading}
@@ -29,3 +30,11 @@ returns-clause-sits g c =
 
 pub returns-in_err-step-clause-sits : goal.returns-in_err-step-clause-sits
 returns-in_err-step-clause-sits g c = λ others s. leads_still c.args.lead.now others c.args.place.now.seat.me s _ refl (c.in_err-step.ensures.unchanged)
+
+pub returns-clause-sees : goal.returns-clause-sees
+returns-clause-sees g c =
+    let lead : Leading = record { number = c.args.lead.now.number; coordinator = c.step.new.self } in
+    sees_one c.args.place.now.seat.me c.settle.new.place.seat.me _ (ap (λ me. me.0.seen) (c.settle.ensures.settled (Lead lead) refl))
+
+pub returns-in_err-step-clause-sees : goal.returns-in_err-step-clause-sees
+returns-in_err-step-clause-sees g c = sees_same c.args.place.now.seat.me c.args.place.now.seat.me refl

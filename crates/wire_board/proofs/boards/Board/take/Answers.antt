@@ -32,6 +32,6 @@ returns-clause-missed g c = λ off. sits_read g.M.SavingMachine.represents c.arg
 pub returns-clause-found : goal.returns-clause-found
 returns-clause-found g c =
     ⊎_elim
-    (λ (same : c.take.result ≡ c.args.expected). ap (λ me. me.0.found) (c.take.ensures.taken same (Node (at_rest c.args.member.now)) refl).1)
-    (λ (off : c.take.result ≢ c.args.expected). ap (λ me. me.0.found) (c.take.ensures.missed off))
+    (λ (same : c.take.result ≡ c.args.expected). ap (λ me. me.0.seen) (c.take.ensures.taken same (Node (at_rest c.args.member.now)) refl).1)
+    (λ (off : c.take.result ≢ c.args.expected). ap (λ me. me.0.seen) (c.take.ensures.missed off))
     (word_cases c.take.result c.args.expected)

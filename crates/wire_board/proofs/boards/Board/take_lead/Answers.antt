@@ -34,6 +34,6 @@ returns-clause-missed g c = λ off others s. leads_read c.args.lead.now others c
 pub returns-clause-found : goal.returns-clause-found
 returns-clause-found g c =
     ⊎_elim
-    (λ (same : c.take.result ≡ c.args.expected). ap (λ me. me.0.found) (c.take.ensures.taken same (Lead c.args.lead.now) refl).1)
-    (λ (off : c.take.result ≢ c.args.expected). ap (λ me. me.0.found) (c.take.ensures.missed off))
+    (λ (same : c.take.result ≡ c.args.expected). ap (λ me. me.0.seen) (c.take.ensures.taken same (Lead c.args.lead.now) refl).1)
+    (λ (off : c.take.result ≢ c.args.expected). ap (λ me. me.0.seen) (c.take.ensures.missed off))
     (word_cases c.take.result c.args.expected)

@@ -1,12 +1,14 @@
 use Rattle.std.proofs.Common.{ap, refl, subst, sym, ◌++◌, ◌∙◌, ◌≡◌, ℕ}
 use Rattle.std.specs.Prelude.{IsTrue, ◌↔◌}
 use Rattle.cluster_laws.specs.cluster_core.Actions.{HasFirst}
+use Rattle.link_tables.proofs.Seeing.{sees_same, sees_then}
 use Rattle.link_tables.specs.Rule.{CarriesLink}
 use Rattle.wire_board.proofs.Places.{holds_now, none_first, queue_is}
 use Rattle.wire_board.proofs.Ruling.{carries_told}
 use Rattle.wire_board.specs.Led.{HasBeenLed, LinkView, number_of}
 use Rattle.wire_board.specs.Openings.{standing_parts}
 use Rattle.wire_board.specs.Seats.{Member, Node, at_rest}
+use Rattle.wire_board.specs.Sights.{FoundWord}
 use Rattle.wire_board.proofs.boards.Board.tell.Goals as goal
 
 pub returns-then-not-waits-clause-nothing : goal.returns-then-not-waits-clause-nothing
@@ -37,3 +39,31 @@ give_back-requires-clause-holds g c =
 
 pub returns-then-not-take_home-clause-sits : goal.returns-then-not-take_home-clause-sits
 returns-then-not-take_home-clause-sits g c = c.take_home.ensures.missed c.if-not-take_home.true
+
+pub returns-then-not-waits-clause-sees : goal.returns-then-not-waits-clause-sees
+returns-then-not-waits-clause-sees g c = sees_same c.args.place.now.seat.me c.args.place.now.seat.me refl
+
+pub returns-then-not-take_home-clause-sees : goal.returns-then-not-take_home-clause-sees
+returns-then-not-take_home-clause-sees g c = c.take_home.ensures.sees
+
+pub returns-then-not-take_home-clause-busy : goal.returns-then-not-take_home-clause-busy
+returns-then-not-take_home-clause-busy g c =
+    λ same.
+    let f = c.take_home.ensures.found c.if-not-take_home.true in
+    (refl, f.0, f.1, subst (λ (i : ℕ). FoundWord c.args.place.now.seat.me c.take_home.new.place.seat.me i f.0) c.link-link.ensures.number f.2)
+
+pub returns-in_err-told-clause-sees : goal.returns-in_err-told-clause-sees
+returns-in_err-told-clause-sees g c =
+    let old = c.args.place.now.seat.me in
+    let taken = c.take_home.new.place.seat.me in
+    let out = c.exchange-queue.new.place.seat.me in
+    let new = c.give_back.new.place.seat.me in
+    sees_then old taken new c.take_home.ensures.sees (sees_then taken out new (sees_same taken out (ap (λ me. me.0.seen) c.exchange-queue.ensures.now)) c.give_back.ensures.sees)
+
+pub returns-clause-sees : goal.returns-clause-sees
+returns-clause-sees g c =
+    let old = c.args.place.now.seat.me in
+    let taken = c.take_home.new.place.seat.me in
+    let out = c.exchange-queue.new.place.seat.me in
+    let new = c.give_back.new.place.seat.me in
+    sees_then old taken new c.take_home.ensures.sees (sees_then taken out new (sees_same taken out (ap (λ me. me.0.seen) c.exchange-queue.ensures.now)) c.give_back.ensures.sees)

@@ -1,13 +1,14 @@
 use Rattle.std.proofs.Common.{inl, inr, add-one, ap, refl, subst, suc, sym, ⊎_elim, ◌++◌, ◌∙◌, ◌∷◌, ◌≡◌, ℕ, [], Some}
 use Rattle.coordinator.specs.coord_core.Calls.{HasHandedOver, StaysCoordinator}
 use Rattle.coordinator.specs.machine_api.Promises.{message_view}
+use Rattle.link_tables.proofs.Seeing.{sees_same, sees_then}
 use Rattle.link_tables.specs.Rule.{CarriesLink}
-use Rattle.link_tables.specs.Seats.{number_in, word_at}
 use Rattle.wire.specs.declared.wire_msgs.messages.Message.{Message}
 use Rattle.wire_board.proofs.LeadPlaces.{lead_holds_now, lead_queue_is}
 use Rattle.wire_board.proofs.Leads.{carries_call_told, carries_no_call}
 use Rattle.wire_board.specs.Led.{HasBeenLed, Lead, Leading, LinkView, link_no, number_of}
 use Rattle.wire_board.specs.Openings.{standing_parts}
+use Rattle.wire_board.specs.Sights.{FoundWord}
 use Rattle.wire_board.proofs.boards.Board.tell_call.Goals as goal
 
 pub returns-then-not-take_home_lead-clause-sits : goal.returns-then-not-take_home_lead-clause-sits
@@ -88,4 +89,34 @@ returns-then-not-take_home_lead-clause-busy g c =
     let number : c.link-link.result ≡ link_no (suc c.args.lead.now.number) c.args.lead.now.number c.args.to.0 =
     c.link-link.ensures.number ∙ ap (λ (k : ℕ). link_no k c.args.lead.now.number c.args.to.0) (add-one c.args.lead.now.number)
     in
-    (refl, f.0, f.1, f.2 ∙ (λ i. (word_at (number i), number_in f.0)))
+    (refl, f.0, f.1, subst (λ (i : ℕ). FoundWord c.args.place.now.seat.me c.take_home_lead.new.place.seat.me i f.0) number f.2)
+
+pub returns-then-not-waits-clause-sees : goal.returns-then-not-waits-clause-sees
+returns-then-not-waits-clause-sees g c = sees_same c.args.place.now.seat.me c.args.place.now.seat.me refl
+
+pub returns-then-not-take_home_lead-clause-sees : goal.returns-then-not-take_home_lead-clause-sees
+returns-then-not-take_home_lead-clause-sees g c = c.take_home_lead.ensures.sees
+
+pub returns-in_err-told-clause-sees : goal.returns-in_err-told-clause-sees
+returns-in_err-told-clause-sees g c =
+    let old = c.args.place.now.seat.me in
+    let taken = c.take_home_lead.new.place.seat.me in
+    let out = c.exchange-queue.new.place.seat.me in
+    let new = c.give_back_lead.new.place.seat.me in
+    sees_then old taken new c.take_home_lead.ensures.sees (sees_then taken out new (sees_same taken out (ap (λ me. me.0.seen) c.exchange-queue.ensures.now)) c.give_back_lead.ensures.sees)
+
+pub returns-then-branch-clause-sees : goal.returns-then-branch-clause-sees
+returns-then-branch-clause-sees g c =
+    let old = c.args.place.now.seat.me in
+    let taken = c.take_home_lead.new.place.seat.me in
+    let out = c.exchange-queue.new.place.seat.me in
+    let new = c.give_back_lead.new.place.seat.me in
+    sees_then old taken new c.take_home_lead.ensures.sees (sees_then taken out new (sees_same taken out (ap (λ me. me.0.seen) c.exchange-queue.ensures.now)) c.give_back_lead.ensures.sees)
+
+pub returns-else-branch-clause-sees : goal.returns-else-branch-clause-sees
+returns-else-branch-clause-sees g c =
+    let old = c.args.place.now.seat.me in
+    let taken = c.take_home_lead.new.place.seat.me in
+    let out = c.exchange-queue.new.place.seat.me in
+    let new = c.give_back_lead.new.place.seat.me in
+    sees_then old taken new c.take_home_lead.ensures.sees (sees_then taken out new (sees_same taken out (ap (λ me. me.0.seen) c.exchange-queue.ensures.now)) c.give_back_lead.ensures.sees)

@@ -1,5 +1,6 @@
 use Rattle.std.proofs.Common.{◌≡◌}
 use Rattle.wire_board.specs.Seats.{Sits}
+use Rattle.wire_board.specs.Sights.{Sees}
 use Rattle.wire_board.proofs.boards.Board.tell_each.Given as goal
 
 abbrev pub invariant-loop-to : goal.invariant-loop-to
@@ -7,4 +8,5 @@ invariant-loop-to g l = record {
   table : l.place.seat.table_id ≡ l.self.table.table.shared.table_id;
   sits : Sits g.M.SavingMachine.represents l.member l.place.seat.me;
   same : (l.member.number ≡ l.fn.member.number) × (l.member.peers ≡ l.fn.member.peers);
+  sees : Sees l.fn.place.seat.me l.place.seat.me;
 }

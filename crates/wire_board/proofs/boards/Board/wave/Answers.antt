@@ -1,6 +1,7 @@
-use Rattle.std.proofs.Common.{refl, rules}
+use Rattle.std.proofs.Common.{ap, refl, rules}
 use Rattle.cluster_laws.specs.cluster_model.Events as law
 use Rattle.cluster_laws.specs.cluster_model.Leading.{puts_wave}
+use Rattle.link_tables.proofs.Seeing.{sees_one, sees_same}
 use Rattle.wire_board.proofs.LeadPlaces.{leads_changed, leads_still}
 use Rattle.wire_board.proofs.Leads.{carries_led}
 use Rattle.wire_board.specs.Led.{Lead, Leading}
@@ -32,3 +33,11 @@ returns-in_err-wave-clause-sits g c = λ others s. leads_still c.args.lead.now o
 
 pub returns-in_err-wave-clause-no_memory : goal.returns-in_err-wave-clause-no_memory
 returns-in_err-wave-clause-no_memory g c = λ is. c.in_err-wave.ensures.no_memory (search rules)
+
+pub returns-clause-sees : goal.returns-clause-sees
+returns-clause-sees g c =
+    let lead : Leading = record { number = c.args.lead.now.number; coordinator = c.wave.new.self } in
+    sees_one c.args.place.now.seat.me c.settle.new.place.seat.me _ (ap (λ me. me.0.seen) (c.settle.ensures.settled (Lead lead) refl))
+
+pub returns-in_err-wave-clause-sees : goal.returns-in_err-wave-clause-sees
+returns-in_err-wave-clause-sees g c = sees_same c.args.place.now.seat.me c.args.place.now.seat.me refl
