@@ -1,0 +1,17 @@
+use Rattle.std.proofs.Common.{subst, suc, sym, ◌∙◌, ℕ}
+use Rattle.wire_board.specs.Attempts.{AllFrom, IsSeatOf}
+use Rattle.wire_board.proofs.boards.Board.make_steps.Goals as goal
+
+pub step_at-requires-clause-seats : goal.step_at-requires-clause-seats
+step_at-requires-clause-seats g c =
+    subst (λ (n : ℕ). AllFrom (λ a seat. IsSeatOf g.M.SavingMachine.represents (suc n) c.args.self.now.table.table.shared.key.about.done.value.items a seat.member seat.place.seat.me seat.before) 0 c.loop-step.seats.items) (sym c.loop-step.invariant.many) c.loop-step.invariant.seats
+
+pub loop-step-preserved : goal.loop-step-preserved
+loop-step-preserved g c = let i = c.loop-step.invariant in record {
+  table = c.in_ok-there.ensures.table;
+  number = c.in_ok-there.ensures.number ∙ i.number;
+  leads = c.in_ok-there.ensures.leads;
+  many = c.in_ok-here.ensures.many ∙ i.many;
+  tables = c.in_ok-here.ensures.tables;
+  seats = subst (λ (n : ℕ). AllFrom (λ a seat. IsSeatOf g.M.SavingMachine.represents (suc n) c.args.self.now.table.table.shared.key.about.done.value.items a seat.member seat.place.seat.me seat.before) 0 c.step_at.new.seats.items) i.many c.in_ok-here.ensures.seats;
+}
