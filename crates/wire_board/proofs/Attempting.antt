@@ -155,7 +155,7 @@ all_map P Q each k (x ∷ xs) all = (each k x all.0, all_map P Q each (suc k) xs
 -- ---- the trace
 
 -- what has come of the trace as its cluster went out has come of the trace
-goes_apart : {M : Type 0} (represents : Setting → ℕ → Machine → M → Type 0) (v w : TraceView M) → TraceGoesOn represents (apart_now v) w → TraceGoesOn represents v w
+pub goes_apart : {M : Type 0} (represents : Setting → ℕ → Machine → M → Type 0) (v w : TraceView M) → TraceGoesOn represents (apart_now v) w → TraceGoesOn represents v w
 goes_apart represents v w goes st o events c is = goes st o events c (record { setting = is.setting; trace = is.trace; code = is.code; done = is.done })
 
 pub goes_ok : {M E : Type 0} (represents : Setting → ℕ → Machine → M → Type 0) (v w : TraceView M) (r : Result (TraceView M) E) → w ≡ apart_now v → IfOk r (λ t. TraceGoesOn represents w t) → IfOk r (λ t. TraceGoesOn represents v t)

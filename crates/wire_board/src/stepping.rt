@@ -1,7 +1,6 @@
 //! A board that is played step by step, on one thread.
 ghost use Rattle.std.specs.Prelude.{◌≡◌, ◌+◌, ◌*◌, ◌^◌, ◌<◌, ◌≤◌, ◌∷◌, ℕ, suc, List, [], length, IfOk, OnOk};
-ghost use Rattle.cluster_step.specs.trace.Later.{IsLaterInAttempt};
-ghost use Rattle.cluster_step.specs.trace.Traces.{IsSameAttempt};
+ghost use Rattle.cluster_step.specs.trace.Traces.{IsSameAttempt, TraceGoesOn};
 ghost use Rattle.link_tables.specs.Seats.{Rests};
 ghost use Rattle.wire_board.specs.Attempts.{AllFrom, AreNumbered, IsBoardOf, IsSeatOf, resting};
 ghost use Rattle.wire_board.specs.Led.{Lead};
@@ -59,7 +58,7 @@ pub fn step_on_board<M: EagerMachine>(
     steps: &[SeatStep],
 ) -> Result<(Trace<M>, bool), NoMemory>
     ensures same { IfOk result (λ t. IsSameAttempt (record trace { since = t.0.now }) t.0) }
-    ensures later { IfOk result (λ t. IsLaterInAttempt M.represents trace t.0) }
+    ensures goes_on { IfOk result (λ t. TraceGoesOn M.represents trace t.0) }
 {
     if trace.is_stopped() || !trace.are_all_awake() || trace.machines() >= TOO_MANY {
         let mut trace = trace;

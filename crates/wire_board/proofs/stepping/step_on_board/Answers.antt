@@ -1,10 +1,11 @@
 use Rattle.std.proofs.Common.{ap, length, subst, suc, sym, ◌∙◌, ℕ}
-use Rattle.wire_board.proofs.Attempting.{later_apart, later_nowhere, length_members, members_numbered}
-use Rattle.wire_board.specs.Attempts.{AreNumbered, IsLaterInAttempt}
+use Rattle.cluster_step.specs.trace.Traces.{TraceGoesOn}
+use Rattle.wire_board.proofs.Attempting.{goes_apart, goes_nowhere, length_members, members_numbered}
+use Rattle.wire_board.specs.Attempts.{AreNumbered}
 use Rattle.wire_board.proofs.stepping.step_on_board.Goals as goal
 
-pub returns-then-is_stopped-clause-later : goal.returns-then-is_stopped-clause-later
-returns-then-is_stopped-clause-later g c = later_nowhere g.M.SavingMachine.represents c.args.trace c.remember.new.self c.remember.ensures
+pub returns-then-is_stopped-clause-goes_on : goal.returns-then-is_stopped-clause-goes_on
+returns-then-is_stopped-clause-goes_on g c = goes_nowhere g.M.SavingMachine.represents c.args.trace c.remember.new.self c.remember.ensures
 
 pub stepped-requires-clause-many : goal.stepped-requires-clause-many
 stepped-requires-clause-many g c =
@@ -17,8 +18,8 @@ stepped-requires-clause-numbers g c =
     subst (λ (k : ℕ). AreNumbered (suc k) 0 c.in_ok-attempt.attempt.members.items) (sym (ap (λ x. length x.now.machines.items) c.in_ok-attempt.ensures.trace))
     (subst (AreNumbered (suc (length v.now.machines.items)) 0) (sym c.in_ok-attempt.ensures.members) (members_numbered (suc (length v.now.machines.items)) 0 v.now.machines.items))
 
-pub returns-clause-later : goal.returns-clause-later
-returns-clause-later g c =
+pub returns-clause-goes_on : goal.returns-clause-goes_on
+returns-clause-goes_on g c =
     let represents = g.M.SavingMachine.represents in
-    later_apart represents c.args.trace c.in_ok-trace.trace
-    (subst (λ x. IsLaterInAttempt represents x c.in_ok-trace.trace) (c.in_ok-attempt-2.ensures.trace ∙ c.in_ok-attempt.ensures.trace) c.in_ok-trace.ensures.later)
+    goes_apart represents c.args.trace c.in_ok-trace.trace
+    (subst (λ x. TraceGoesOn represents x c.in_ok-trace.trace) (c.in_ok-attempt-2.ensures.trace ∙ c.in_ok-attempt.ensures.trace) c.in_ok-trace.ensures.goes_on)
