@@ -27,8 +27,8 @@ pub enum Directed {
 
 impl<M: SavingMachine> Board<M> {
     /// The coordinator's turn: it tells each machine a call, looks at the link from each and hears a
-    /// report, and does what is due. It puts a wave out only where nothing has moved. Where a record is due, or the end,
-    /// it does nothing of its own.
+    /// report, and does what is due. It puts a wave out only where nothing has moved. Where a record
+    /// is due, or the end, it does nothing of its own.
     pub fn direct(
         &self,
         alloc: Global,
