@@ -185,6 +185,7 @@ fn kept_apart(
 fn places_of<P: Program>(alloc: Global, beginning: &Beginning<'_, P>) -> Result<Places, Trouble>
     ensures places { IfOk result (λ places.
         ArePlacesOf beginning.now.graph.now places.run.machines places) }
+    ensures window { IfOk result (λ places. places.run.window ≡ Some beginning.now.window) }
     ensures graph { IfOk result (λ places. IsDataGraph beginning.now.graph.now) }
 {
     let graph = beginning.graph;
@@ -198,7 +199,7 @@ fn places_of<P: Program>(alloc: Global, beginning: &Beginning<'_, P>) -> Result<
         machines: beginning.machines,
         pipeline: beginning.pipeline,
         first: Vertex(0),
-        window: beginning.window,
+        window: Some(beginning.window),
         engine,
     };
     Ok(Places {
@@ -246,6 +247,7 @@ fn start_at<P: Program>(
     serials: &[u64],
 ) -> Result<Start<P>, Trouble>
     requires places { ArePlacesOf beginning.now.graph.now places.now.run.machines places.now }
+    requires window { places.now.run.window ≡ Some beginning.now.window }
     requires graph { IsDataGraph beginning.now.graph.now }
     ensures start { IfOk result (λ start. (next left : ℕ) → (st : Setting) × (view : BaseView) ×
         (before : Cluster) ×

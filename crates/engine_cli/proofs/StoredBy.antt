@@ -1,5 +1,5 @@
 -- What the run of a program on an opened store says of the job.
-use Rattle.std.proofs.Common.{◌≡◌, ◌≤◌, ◌^◌, inl, inr, ℕ, ◌+◌, ◌*◌, Bool, false, true, List, length, Result, Ok, Err, refl, sym, ◌∙◌, subst, ⊎_elim}
+use Rattle.std.proofs.Common.{◌≡◌, ◌≤◌, ◌^◌, inl, inr, ℕ, ◌+◌, ◌*◌, Bool, Some, false, true, List, length, Result, Ok, Err, refl, sym, ◌∙◌, subst, ⊎_elim}
 use Rattle.std.specs.Prelude.{All, IfErr, IfOk}
 use Rattle.graph_atoms.specs.declared.atom_gather.cuts.Cut.{Cut}
 use Rattle.gl_base.specs.declared.entries.Entry.{Entry}
@@ -75,10 +75,10 @@ EnoughBy g cut p bodies run plan failures header =
     (bound : ℕ) → BoundsSteps g p bound → (1 + length failures) * bound ≤ plan.budget → (left : Vertex) → run.end ≡ end.Spent left → ⊥
 
 -- its machines are those of the plan
-abbrev pub MachinesBy : DataGraph → Cut → Update → Bool → ℕ → EngineKind → List (List ℕ) → StoredRun → RunPlan → List FailureAt → Header → Type 0
-MachinesBy g cut p saves window kind bodies run plan failures header =
+abbrev pub MachinesBy : DataGraph → Cut → Update → ℕ → EngineKind → List (List ℕ) → StoredRun → RunPlan → List FailureAt → Header → Type 0
+MachinesBy g cut p window kind bodies run plan failures header =
     (owner : ℕ → ℕ) → IsPlacement g cut plan.machines owner → IsGoodStore (owned_shared g p owner failures) header bodies →
-    IsRunBy g cut p (record { run = plan; window = window; engine = kind; saves_end = saves }) failures (lists_of run)
+    IsRunBy g cut p (record { run = plan; engine = kind; window = Some window }) failures (lists_of run)
 
 abbrev pub RoomyBy : DataGraph → Cut → Update → Bool → ℕ → EngineKind → ℕ → ℕ → List (List ℕ) → StoredRun → RunPlan → List FailureAt → Header → Type 0
 RoomyBy g cut p saves window kind count long bodies run plan failures header =
@@ -139,13 +139,13 @@ module _ (job : JobSayings) (g : DataGraph) (cut : Cut) (p : Update) (bodies : L
       subst B failures_are (subst A plan_is f)
 
   pub run-from : (resumed : Bool) (count long : ℕ) (run : StoredRun) → count ≡ length bodies → long ≡ 65 + records_size bodies → GoesBy g cut p true job.fields.window resumed count bodies old new run plan failures header
-      → PlacedBy g cut plan failures header → MachinesBy g cut p true job.fields.window job.fields.engine bodies run plan failures header → EnoughBy g cut p bodies run plan failures header
+      → PlacedBy g cut plan failures header → MachinesBy g cut p job.fields.window job.fields.engine bodies run plan failures header → EnoughBy g cut p bodies run plan failures header
       → RoomyBy g cut p true job.fields.window job.fields.engine count long bodies run plan failures header → FullBy after new run.end → IsStoreRunFrom job g cut p header resumed bodies old new run
   run-from resumed count long run count_is long_is goes placed machines enough roomy full = record {
     goes_on = of-job (GoesBy g cut p true job.fields.window resumed (length bodies) bodies old new run)
         (subst (λ (n : ℕ). GoesBy g cut p true job.fields.window resumed n bodies old new run plan failures header) count_is goes);
     placed = of-job (PlacedBy g cut) placed;
-    machines = of-job (MachinesBy g cut p true job.fields.window job.fields.engine bodies run) machines;
+    machines = of-job (MachinesBy g cut p job.fields.window job.fields.engine bodies run) machines;
     enough = of-job (EnoughBy g cut p bodies run) enough;
     roomy = of-job (RoomyBy g cut p true job.fields.window job.fields.engine (length bodies) (65 + records_size bodies) bodies run)
         (subst (λ (l : ℕ). RoomyBy g cut p true job.fields.window job.fields.engine (length bodies) l bodies run plan failures header) long_is

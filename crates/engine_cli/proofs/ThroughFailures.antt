@@ -1,5 +1,5 @@
 -- A run without a store as one of the job.
-use Rattle.std.proofs.Common.{◌≡◌, ◌≤◌, ◌+◌, ◌*◌, ℕ, List, false, length, subst}
+use Rattle.std.proofs.Common.{◌≡◌, ◌≤◌, ◌+◌, ◌*◌, ℕ, List, None, length, subst}
 use Rattle.graph_atoms.specs.declared.atom_gather.cuts.Cut.{Cut}
 use Rattle.gl_base.specs.declared.jobs.EngineKind.{EngineKind}
 use Rattle.gl_base.specs.declared.jobs.FailureAt.{FailureAt}
@@ -33,7 +33,7 @@ abbrev PlacedSo : DataGraph → Cut → RunPlan → Type 0
 PlacedSo g cut plan = (owner : ℕ → ℕ) × IsPlacement g cut plan.machines owner
 
 abbrev NamedBy : DataGraph → Cut → StoredRun → EngineKind → Update → RunPlan → List FailureAt → Type 0
-NamedBy g cut run kind p plan failures = (window : ℕ) × IsRunBy g cut p (record { run = plan; window = window; engine = kind; saves_end = false }) failures (lists_of run)
+NamedBy g cut run kind p plan failures = IsRunBy g cut p (record { run = plan; engine = kind; window = None }) failures (lists_of run)
 
 -- by the names of the job
 by-job : (Q : Update → RunPlan → List FailureAt → Type 0) (job : JobSayings) (p : Update) (plan : RunPlan) (failures : List FailureAt) → p ≡ update_of job.fields.algorithm job.fields.source → plan ≡ plan_for job → failures ≡ job.failures

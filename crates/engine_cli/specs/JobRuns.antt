@@ -32,6 +32,7 @@ use Rattle.store.specs.declared.store_format.header.Header.{Header}
 use Rattle.engine_runs.specs.declared.answers.runs.SnapLine.{SnapLine}
 use Rattle.engine_runs.specs.declared.answers.runs.StoredEnd.{StoredEnd}
 use Rattle.engine_runs.specs.declared.answers.runs.StoredEnd.TheVariants.{Finished, Full, Spent}
+use Rattle.engine_runs.specs.declared.answers.runs.MachinePlan.{MachinePlan}
 use Rattle.engine_runs.specs.declared.answers.runs.StoredPlan.{StoredPlan}
 use Rattle.engine_runs.specs.declared.answers.runs.StoredRun.{StoredRun}
 use Rattle.engine_cli.specs.declared.ended.Ended.{Ended}
@@ -64,18 +65,22 @@ lists_of_call ended = record { order = ended.order.items; lost = ended.lost.item
 abbrev pub plan_for : JobSayings → RunPlan
 plan_for job = record { machines = job.fields.machines; pipeline = job.fields.pipeline; budget = job.fields.budget }
 
--- and with this window, its end saved or not
-abbrev pub plan_with : JobSayings → Bool → ℕ → StoredPlan
-plan_with job saves window = record { run = plan_for job; window = window; engine = job.fields.engine; saves_end = saves }
+-- and on its store, with its window and its end saved
+abbrev pub store_plan : JobSayings → StoredPlan
+store_plan job = record { run = plan_for job; window = job.fields.window; engine = job.fields.engine; saves_end = true }
 
--- The machines that ran are of the engine that the job names, with its pipeline: the run has the lists of a course of such a cluster, with this window, its end
--- saved or not.
-abbrev pub RunsAsNamed : JobSayings → DataGraph → Cut → Bool → ℕ → StoredRun → Type 0
-RunsAsNamed job g cut saves window run = IsRunBy g cut (update_of job.fields.algorithm job.fields.source) (plan_with job saves window) job.failures (lists_of run)
+-- and on machines with this window, or on ones that take no snapshots
+abbrev pub machines_for : JobSayings → Option ℕ → MachinePlan
+machines_for job window = record { run = plan_for job; engine = job.fields.engine; window = window }
+
+-- The machines that ran are of the engine that the job names, with its pipeline: the run has the lists of a course of such a cluster, with this window or without
+-- one.
+abbrev pub RunsAsNamed : JobSayings → DataGraph → Cut → Option ℕ → StoredRun → Type 0
+RunsAsNamed job g cut window run = IsRunBy g cut (update_of job.fields.algorithm job.fields.source) (machines_for job window) job.failures (lists_of run)
 
 -- the store with these snapshots has room for the job's run on this graph
 abbrev pub HasRoomForJob : JobSayings → DataGraph → List (List ℕ) → Type 0
-HasRoomForJob job g opened = HasRoomForRun g (plan_with job true job.fields.window) (length job.failures) (length opened) (65 + records_size opened)
+HasRoomForJob job g opened = HasRoomForRun g (store_plan job) (length job.failures) (length opened) (65 + records_size opened)
 
 -- ---- without a store
 
@@ -115,9 +120,9 @@ pub record RunsThroughFailures (job : JobSayings) (g : DataGraph) (cut : Cut) (r
   pub ended : IsEndAlone run.end
   pub snapshots : run.snapshots.items ≡ []
 
--- its machines are those that the job names, whatever their window
+-- its machines are those that the job names, and take no snapshots
 abbrev pub HasNamedMachines : JobSayings → DataGraph → Cut → StoredRun → Type 0
-HasNamedMachines job g cut run = (window : ℕ) × RunsAsNamed job g cut false window run
+HasNamedMachines job g cut run = RunsAsNamed job g cut None run
 
 -- a run without a store on a graph that is cut so, where the job orders these failures
 abbrev pub RunsWithoutStore : JobSayings → DataGraph → Cut → StoredRun → List FailureAt → Type 0
@@ -178,7 +183,7 @@ pub record RunsOnStore (resumed : Bool) (job : JobSayings) (g : DataGraph) (cut 
   pub placed : (owner : ℕ → ℕ) × IsPlacement g cut job.fields.machines owner
   pub goes_on : (owner : ℕ → ℕ) (front : List (List ℕ)) → IsStoreOfJob job g cut owner front old
       → GoesOnFrom job (shared_by job g owner) resumed (header_for job.fields g) front (snapshots_on job g old) old new run
-  pub machines : (owner : ℕ → ℕ) (front : List (List ℕ)) → IsStoreOfJob job g cut owner front old → RunsAsNamed job g cut true job.fields.window run
+  pub machines : (owner : ℕ → ℕ) (front : List (List ℕ)) → IsStoreOfJob job g cut owner front old → RunsAsNamed job g cut (Some job.fields.window) run
   pub full : (stored bytes : ℕ) → run.end ≡ Full stored bytes → (stored ≡ length (snapshots_on job g new)) × (bytes ≡ 65 + records_size (snapshots_on job g new))
 
 -- ---- either way

@@ -1,5 +1,5 @@
 -- What is so of a call with a store as it begins.
-use Rattle.std.proofs.Common.{◌≡◌, ◌≤◌, ℕ, ◌∙◌, List, [], ◌++◌, ap, inl, le_refl, length, subst, suc, sym}
+use Rattle.std.proofs.Common.{◌≡◌, ◌≤◌, ℕ, ◌∙◌, List, [], ◌++◌, ap, inl, le_refl, length, subst, suc, sym, true}
 use Rattle.std.proofs.lemmas.List.{append-nil, get_or_past}
 use Rattle.std.specs.declared.alloc.Global.{Global}
 use Rattle.std.specs.declared.vec.Vec.{Vec}
@@ -33,7 +33,7 @@ leaves_now past Q now = record {
 module _ {D P : Type 0} (meaning : P → Update) (past : D → DiskPast) (call : StoredCall P) (journal after : JournalState D) (resumed : Bool) (budget : ℕ) (st : Setting) (failures : List FailureAt) (same : call.trace.failures ≡ failures)
     (disk : past after.disk ≡ past journal.disk) (header : after.header ≡ journal.header) (good : IsGoodStore (shared_of st failures) journal.header (snapshots_in past journal))
     (represents : AllDecodeTo journal.header (snapshots_in past journal) (past journal.disk)) (lost : call.lost.items ≡ []) (lines : call.snapshots.items ≡ [])
-    (o : CallOpening) (resumed_is : o.resumed ≡ resumed) (tickets : o.first.left ≡ budget) where
+    (o : CallOpening) (resumed_is : o.resumed ≡ resumed) (tickets : o.first.left ≡ budget) (taken : st.stored ≡ true) where
   abbrev bodies : List (List ℕ)
   bodies = snapshots_in past journal
 
@@ -51,6 +51,7 @@ module _ {D P : Type 0} (meaning : P → Update) (past : D → DiskPast) (call :
         resumed_is = resumed_is;
         tickets = tickets;
         at = record {
+          taken = taken;
           added = [];
           known = subst (λ (h : Header). IsKnownAt meaning call.trace call h bodies (bodies ++ []) st o) (sym header)
               (subst (λ (these : List (List ℕ)). IsKnownAt meaning call.trace call journal.header bodies these st o) (sym (append-nil bodies)) known);

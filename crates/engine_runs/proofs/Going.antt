@@ -107,6 +107,7 @@ module _ {D P : Type 0} (meaning : P → Update) (past : D → DiskPast) (call l
   pub still_there : later.snapshots.items ≡ call.snapshots.items → past after.disk ≡ past journal.disk → IsKnownAt meaning later.trace later after.header start had st o →
       IsCallAt meaning past later after start first st o
   still_there lines disk known = record {
+    taken = at.taken;
     added = at.added;
     known = known;
     stored = λ ok. ap (λ (h : Header). stored_as h (past after.disk)) header ∙ ap (λ (p : DiskPast). stored_as journal.header p) disk ∙ had_is;
@@ -120,6 +121,7 @@ module _ {D P : Type 0} (meaning : P → Update) (past : D → DiskPast) (call l
   pub fault_there : later.snapshots.items ≡ call.snapshots.items → ((ok : after.failed ≡ false) → ⊥) → LeavesOnly (past journal.disk) (past after.disk) (IsGoodImage shared journal.header (snapshots_in past journal)) →
       IsKnownAt meaning later.trace later after.header start had st o → IsCallAt meaning past later after start first st o
   fault_there lines ill moments known = record {
+    taken = at.taken;
     added = at.added;
     known = known;
     stored = λ ok. absurd (ill ok);
@@ -141,6 +143,7 @@ module _ {D P : Type 0} (meaning : P → Update) (past : D → DiskPast) (call l
       IsLineOf shared (length (snapshots_in past after)) (stored_order (snapshots_in past after)) line →
       LeavesOnly (past journal.disk) (past after.disk) (IsGoodImage shared journal.header (snapshots_in past journal)) → IsCallAt meaning past later after start first st o
   one_more line lines more known good all is_line moments = record {
+    taken = at.taken;
     added = more_added;
     known = subst (λ (bodies : List (List ℕ)). IsKnownAt meaning later.trace later after.header start bodies st o) now_is known;
     stored = λ ok. now_is;

@@ -1,15 +1,16 @@
 -- A run with a store, by whatever owners the placement gives.
-use Rattle.std.proofs.Common.{◌≡◌, ◌<◌, ℕ, ◌++◌, Bool, List, length, refl, subst, subst₂, sym, true}
+use Rattle.std.proofs.Common.{◌≡◌, ◌<◌, ℕ, ◌++◌, Bool, List, length, refl, subst, subst₂, sym}
+use Rattle.std.specs.Prelude.{is_some}
 use Rattle.graph_atoms.specs.declared.atom_gather.cuts.Cut.{Cut}
 use Rattle.gl_base.specs.declared.jobs.FailureAt.{FailureAt}
 use Rattle.graph_core.specs.DataGraph.{DataGraph, IsDataGraph, size}
 use Rattle.placement.proofs.places.OwnerLemmas.{owner_low}
-use Rattle.placed_machines.proofs.RunLemmas.{engine_of, runs_by}
+use Rattle.placed_machines.proofs.RunLemmas.{engine_of, runs_by, window_back, window_or}
 use Rattle.placed_machines.specs.Beginning.{placed_owner}
 use Rattle.placed_machines.specs.declared.placing.Places.{Places}
 use Rattle.engine_runs.proofs.attempt_machines.EngineLemmas.{coloured_by}
 use Rattle.engine_runs.specs.declared.answers.runs.StoredEnd.{StoredEnd}
-use Rattle.engine_runs.specs.declared.answers.runs.StoredPlan.{StoredPlan}
+use Rattle.engine_runs.specs.declared.answers.runs.MachinePlan.{MachinePlan}
 use Rattle.engine_runs.specs.declared.answers.runs.StoredRun.{StoredRun}
 use Rattle.engine_runs.specs.Calls.{CallOpening, DiskPast, Header, HoldsGood, IsCallAt, IsCallEnded, IsRunAt, JournalState, LeavesOnly, Setting, orders_behind, shared_of, stored_order}
 use Rattle.engine_runs.specs.Runs.{ArePlacedFor, IsEndAt, IsRunSo, IsStoredRun, KeepsGood, Shared, owned_shared}
@@ -32,13 +33,13 @@ owned_setting g program places owner =
       machines = places.run.machines;
       pipeline = places.run.pipeline;
       engine = engine_of places.run.engine places.colours.items;
-      stored = true;
-      window = places.run.window;
+      stored = is_some places.run.window;
+      window = window_or places.run.window;
       start = record { vertex = λ v. 0; edge = λ e. 0 };
       base = 0;
     }
 
-pub with_owner : (g : DataGraph) (program : Update) (cut : Cut) (plan : StoredPlan) (places : Places) (owner : ℕ → ℕ) (failures : List FailureAt) → IsDataGraph g → ArePlacedFor g cut plan places →
+pub with_owner : (g : DataGraph) (program : Update) (cut : Cut) (plan : MachinePlan) (places : Places) (owner : ℕ → ℕ) (failures : List FailureAt) → IsDataGraph g → ArePlacedFor g cut plan places →
     ((v : ℕ) → v < size g → owner v ≡ placed_owner places.of.items places.owner.items v) → HasOwner g program places owner failures
 with_owner g program cut plan places owner failures graph are same = record {
   st = owned_setting g program places owner;
@@ -54,8 +55,7 @@ with_owner g program cut plan places owner failures graph are same = record {
     placed = record { graph = refl; machines = refl; owners = same };
     program_is = refl;
     pipeline = refl;
-    stored = refl;
-    window = refl;
+    window = window_back places.run.window;
   };
   shared_is = refl;
 }

@@ -49,7 +49,7 @@ module _ {D P : Type 0} (meaning : P → Update) (past : D → DiskPast) (call l
       GoBackErrorCause told (InEachTrace (IsAnyMachineOf meaning) later.trace (λ st o events c. st.stored ≡ true → 2 ^ 32 ≤ c.coordinator.store_end + 16 * failures_in st c)) old new before now why → end_without why long ≡ Err (fault.BadStore bad) → ⊥
   never_back told old new before now why long bad tells is same =
       not_bad told (InEachTrace (IsAnyMachineOf meaning) later.trace (λ st o events c. st.stored ≡ true → 2 ^ 32 ≤ c.coordinator.store_end + 16 * failures_in st c)) old new before now why long bad tells
-      (λ over. far (over st o known.was.events known.was.cluster known.was.now known.fits.taken)) is same
+      (λ over. far (over st o known.was.events known.was.cluster known.was.now at.taken)) is same
 
 -- ---- where a snapshot is added
 

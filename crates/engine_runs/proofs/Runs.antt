@@ -1,5 +1,5 @@
 -- A run with a store, from its beginning to its end.
-use Rattle.std.proofs.Common.{◌≡◌, ◌≤◌, ◌<◌, ◌^◌, ◌*◌, ◌+◌, ◌/◌, ◌++◌, ◌∙◌, ◌⊎◌, ℕ, subst₂, Bool, Err, IfErr, IfOk, List, Ok, Result, ap, false, inl, inr, length, refl, subst, sym, true≢false, arith}
+use Rattle.std.proofs.Common.{◌≡◌, ◌≤◌, ◌<◌, ◌^◌, ◌*◌, ◌+◌, ◌/◌, ◌++◌, ◌∙◌, ◌⊎◌, ℕ, subst₂, Bool, Err, IfErr, IfOk, List, Ok, Result, ap, false, inl, inr, length, refl, subst, sym, true, true≢false, arith}
 use Rattle.graph_atoms.specs.declared.atom_gather.cuts.Cut.{Cut}
 use Rattle.gl_base.specs.declared.entries.Entry.{Entry}
 use Rattle.gl_base.specs.declared.jobs.FailureAt.{FailureAt}
@@ -21,14 +21,15 @@ use Rattle.engine_runs.specs.declared.answers.runs.StoredEnd.{StoredEnd}
 use Rattle.engine_runs.specs.declared.answers.runs.StoredEnd.TheVariants as end
 use Rattle.engine_runs.specs.declared.answers.runs.StoredPlan.{StoredPlan}
 use Rattle.engine_runs.specs.declared.answers.runs.StoredRun.{StoredRun}
+use Rattle.placed_machines.proofs.RunLemmas.{stored_with}
 use Rattle.engine_runs.proofs.Owners.{HasOwner, end_at, kept_good, run_named, with_owner}
 use Rattle.engine_runs.specs.Calls.{CallOpening, DiskPast, EndsBy, EndsCall, Header, IsCallAt, IsCallEnded, IsAnyMachineOf, IsNotRefused, IsRunAt, StoppedRunErrorCause, JournalState, KeepsCall, KeepsToBounds, Setting, orders_behind, shared_of, snapshots_in, stored_order}
-use Rattle.engine_runs.specs.Runs.{ArePlacedFor, BoundsSteps, HasCallBegun, HasTraceOf, HasRoomForRun, half_of, IsEndAt, IsFinishedOrNoMemory, IsGoodStore, IsPlacement, IsRunBy, IsRunSo, IsStoredRun, RunErrorCause, BeginErrorCause, KeepsByOwner, KeepsGood, RunLists, Shared, owned_shared}
+use Rattle.engine_runs.specs.Runs.{ArePlacedFor, BoundsSteps, HasCallBegun, HasTraceOf, HasRoomForRun, half_of, IsEndAt, IsFinishedOrNoMemory, IsGoodStore, IsPlacement, IsRunBy, IsRunSo, IsStoredRun, RunErrorCause, BeginErrorCause, KeepsByOwner, KeepsGood, RunLists, Shared, machine_plan, owned_shared}
 use Rattle.engine_runs.specs.declared.calls.StoredCall.{StoredCall}
 use Rattle.update_api.specs.Updates.{Update}
 
 module _ {D P : Type 0} (meaning : P → Update) (past : D → DiskPast) (g : DataGraph) (program : Update) (cut : Cut) (plan : StoredPlan) (failures : List FailureAt) (journal mid after : JournalState D) (call later : StoredCall P) (resumed : Bool)
-    (graph : IsDataGraph g) (placed : ArePlacedFor g cut plan call.places)
+    (graph : IsDataGraph g) (placed : ArePlacedFor g cut (machine_plan plan) call.places)
     (one : (owner other : ℕ → ℕ) → IsPlacement g cut plan.run.machines owner → IsPlacement g cut plan.run.machines other → (v : ℕ) → v < size g → owner v ≡ other v)
     (begun : (st : Setting) → IsRunAt g program call.places st → IsGoodStore (shared_of st failures) journal.header (snapshots_in past journal) → HasCallBegun meaning past call journal mid resumed plan.run.budget st)
     (same : later.trace.failures ≡ failures) (header : after.header ≡ journal.header) where
@@ -36,11 +37,15 @@ module _ {D P : Type 0} (meaning : P → Update) (past : D → DiskPast) (g : Da
   bodies = snapshots_in past journal
 
   has : (owner : ℕ → ℕ) → IsPlacement g cut plan.run.machines owner → HasOwner g program call.places owner failures
-  has owner placement = with_owner g program cut plan call.places owner failures graph placed (one owner (placed_owner call.places.of.items call.places.owner.items) placement placed.placement)
+  has owner placement = with_owner g program cut (machine_plan plan) call.places owner failures graph placed (one owner (placed_owner call.places.of.items call.places.owner.items) placement placed.placement)
 
   abbrev starts : (owner : ℕ → ℕ) (placement : IsPlacement g cut plan.run.machines owner) → IsGoodStore (owned_shared g program owner failures) journal.header bodies → HasCallBegun meaning past call journal mid resumed plan.run.budget (has owner placement).st
   starts owner placement good =
       begun (has owner placement).st (has owner placement).runs (subst (λ (s : Shared). IsGoodStore s journal.header bodies) (sym (has owner placement).shared_is) good)
+
+  -- snapshots are taken, with the plan's window
+  windowed : (owner : ℕ → ℕ) (placement : IsPlacement g cut plan.run.machines owner) → ((has owner placement).st.stored ≡ true) × ((has owner placement).st.window ≡ plan.window)
+  windowed owner placement = stored_with (has owner placement).st plan.window ((has owner placement).runs.window ∙ placed.window)
 
   shared_later : (owner : ℕ → ℕ) (placement : IsPlacement g cut plan.run.machines owner) → shared_of (has owner placement).st later.trace.failures ≡ owned_shared g program owner failures
   shared_later owner placement = ap (λ (fs : List FailureAt). shared_of (has owner placement).st fs) same ∙ (has owner placement).shared_is
@@ -56,7 +61,7 @@ module _ {D P : Type 0} (meaning : P → Update) (past : D → DiskPast) (g : Da
 
   -- what the run is, and what crashes leave, where it has ended
   pub runs_owner : (how : StoredEnd) (run : StoredRun) (count : ℕ) → EndsCall meaning past g program call mid later after how → later.places ≡ call.places → length bodies ≡ count → later.saves_end ≡ plan.saves_end →
-      ((program : Update) (header : Header) (start added : List (List ℕ)) (st : Setting) (o : CallOpening) → IsRunAt g program later.places st → IsEndAt meaning later header start added st o how → IsRunSo later.saves_end st failures o start added run) →
+      ((program : Update) (header : Header) (start added : List (List ℕ)) (st : Setting) (o : CallOpening) → IsRunAt g program later.places st → IsEndAt meaning later header start added st o how → st.stored ≡ true → IsRunSo later.saves_end st failures o start added run) →
       (owner : ℕ → ℕ) → IsPlacement g cut plan.run.machines owner → IsGoodStore (owned_shared g program owner failures) journal.header bodies →
       (snapshots : List (List Entry)) × IsStoredRun plan.saves_end (owned_shared g program owner failures) plan.run.machines plan.window plan.run.budget count (stored_order bodies) resumed snapshots run
       × KeepsGood (owned_shared g program owner failures) journal.header bodies snapshots (past journal.disk) (past after.disk)
@@ -66,9 +71,9 @@ module _ {D P : Type 0} (meaning : P → Update) (past : D → DiskPast) (g : Da
       let there : IsRunAt g program later.places (has owner placement).st = subst (λ (p : Places). IsRunAt g program p (has owner placement).st) (sym places) (has owner placement).runs in (
         orders_behind (stored_order bodies) e.at.added,
         run_named plan.saves_end (has owner placement).st failures start.opening bodies e.at.added run (owned_shared g program owner failures) plan.run.machines plan.window plan.run.budget count resumed (has owner placement).shared_is
-            ((has owner placement).runs.placed.machines ∙ placed.are.many) ((has owner placement).runs.window ∙ placed.window) start.tickets counted start.resumed_is
+            ((has owner placement).runs.placed.machines ∙ placed.are.many) (windowed owner placement).1 start.tickets counted start.resumed_is
             (subst (λ (b : Bool). IsRunSo b (has owner placement).st failures start.opening bodies e.at.added run) saves
-            (gathered program after.header bodies e.at.added (has owner placement).st start.opening there (end_at meaning past later after bodies (past journal.disk) (has owner placement).st start.opening how e))),
+            (gathered program after.header bodies e.at.added (has owner placement).st start.opening there (end_at meaning past later after bodies (past journal.disk) (has owner placement).st start.opening how e) e.at.taken)),
         kept_good meaning past later after bodies (past journal.disk) (has owner placement).st start.opening (owned_shared g program owner failures) journal.header (shared_later owner placement) header e.at,
       )
 
@@ -76,7 +81,7 @@ module _ {D P : Type 0} (meaning : P → Update) (past : D → DiskPast) (g : Da
   pub run_by : (how : StoredEnd) (lists : RunLists) → EndsCall meaning past g program call mid later after how → later.places ≡ call.places →
       ((program : Update) (header : Header) (start added : List (List ℕ)) (st : Setting) (o : CallOpening) → IsRunAt g program later.places st → (at : IsEndAt meaning later header start added st o how) →
       HasTraceOf failures st o at.known.was.events at.known.was.cluster lists) →
-      (owner : ℕ → ℕ) → IsPlacement g cut plan.run.machines owner → IsGoodStore (owned_shared g program owner failures) journal.header bodies → IsRunBy g cut program plan failures lists
+      (owner : ℕ → ℕ) → IsPlacement g cut plan.run.machines owner → IsGoodStore (owned_shared g program owner failures) journal.header bodies → IsRunBy g cut program (machine_plan plan) failures lists
   run_by how lists ends places gathered owner placement good =
       let start : HasCallBegun meaning past call journal mid resumed plan.run.budget (has owner placement).st = starts owner placement good in
       let e : IsCallEnded meaning past later after bodies (past journal.disk) (has owner placement).st start.opening how = ends bodies (past journal.disk) (has owner placement).st start.opening (has owner placement).runs start.at in
@@ -125,7 +130,7 @@ module _ {D P : Type 0} (meaning : P → Update) (past : D → DiskPast) (g : Da
         IsCallEnded meaning past later after bodies (past journal.disk) st o (end.Full stored long) → ⊥
     needs_no_more room counts lasts running well stored long e =
         let makes = makes_call (IsAnyMachineOf meaning) e.paused st o e.known.was.events e.known.was.cluster e.known.was.now in
-        let half : half_of plan.window ≡ half_window st = ap half_of (sym ((has owner placement).runs.window ∙ placed.window)) in
+        let half : half_of plan.window ≡ half_window st = ap half_of (sym (windowed owner placement).1) in
         let budget : plan.run.budget ≡ o.first.left = sym (starts owner placement good).tickets in
         let many : length failures ≡ length e.paused.failures = sym (ap (length {A = FailureAt}) (e.failures ∙ same)) in
         let machines : plan.run.machines ≡ st.machines = sym ((has owner placement).runs.placed.machines ∙ placed.are.many) in

@@ -34,9 +34,10 @@ abbrev pub IsKnownAt : {P : Type 0} → (P → Update) → TraceView (AnyMachine
 IsKnownAt meaning v call header start bodies st o =
     IsKnownTrace (IsAnyMachineOf meaning) v header start bodies call.lost.items call.restarts.stored.items call.restarts.front.items call.order.items st o
 
--- The store began with these snapshots, and has got others since, of which the call has a line each. Whatever a crash left since that first
+-- Snapshots are taken. The store began with these snapshots, and has got others since, of which the call has a line each. Whatever a crash left since that first
 -- time is a good store that begins with the first ones; and what one leaves now has the others besides.
 pub record IsCallAt {D P : Type 0} (meaning : P → Update) (past : D → DiskPast) (call : StoredCall P) (journal : JournalState D) (start : List (List ℕ)) (first : DiskPast) (st : Setting) (o : CallOpening) : Type 0 where
+  pub taken : st.stored ≡ true
   pub added : List (List ℕ)
   pub known : IsKnownAt meaning call.trace call journal.header start (start ++ added) st o
   pub stored : journal.failed ≡ false → snapshots_in past journal ≡ start ++ added

@@ -1,11 +1,12 @@
 -- How a run with a store begins, and what it is as it ends.
 pub use Rattle.engine_runs.specs.finish.Ends.{IsEndedRun}
-pub use Rattle.engine_runs.specs.start.Starting.{ArePlacedFor, run_shared}
+pub use Rattle.engine_runs.specs.start.Starting.{ArePlacedFor, machine_plan, run_shared}
 pub use Rattle.placement.specs.plans.Plans.{CanBeCut, IsInRange}
 pub use Rattle.placement.specs.plans.Plays.{IsPlacement}
 pub use Rattle.graph_text.specs.order_text.Orders.{IsEntryOf}
 pub use Rattle.call_laws.specs.call_budgets.Enough.{BoundsSteps}
 pub use Rattle.engine_runs.specs.answers.Ends.{half_of}
+pub use Rattle.engine_runs.specs.declared.answers.runs.MachinePlan.{MachinePlan}
 pub use Rattle.engine_runs.specs.declared.answers.runs.StoredPlan.{StoredPlan}
 pub use Rattle.engine_runs.specs.answers.Images.{HoldsGood, IsGoodStore, KeepsGood, stored_order}
 pub use Rattle.engine_runs.specs.answers.Runs.{IsStoredRun, RunLists, Shared, lists_of}
@@ -59,7 +60,7 @@ HasTraceOf failures st o events c lists =
 
 -- The machines that ran are those that the plan asks for: the graph was placed for it, so that engine, pipeline and window of their cluster are the plan's,
 -- and these are the lists of a course of that cluster.
-pub record IsRunBy (g : DataGraph) (cut : Cut) (program : Update) (plan : StoredPlan) (failures : List FailureAt) (lists : RunLists) : Type 0 where
+pub record IsRunBy (g : DataGraph) (cut : Cut) (program : Update) (plan : MachinePlan) (failures : List FailureAt) (lists : RunLists) : Type 0 where
   pub places : Places
   pub placed : ArePlacedFor g cut plan places
   pub setting : Setting

@@ -2,4 +2,4 @@
 
 mod runs;
 
-pub use runs::{RunInput, SnapLine, StoredEnd, StoredPlan, StoredRun, UnstoredInput};
+pub use runs::{MachinePlan, RunInput, SnapLine, StoredEnd, StoredPlan, StoredRun, UnstoredInput};

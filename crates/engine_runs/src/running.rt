@@ -1,5 +1,5 @@
 //! A run with a store.
-ghost use Rattle.std.specs.Prelude.{All, List, [], false, length, ◌≡◌, ◌≤◌, ◌<◌, ◌^◌, ◌*◌, ◌+◌, ◌⊎◌, ℕ, IfErr, IfOk, IsErrOf, IsTrue};
+ghost use Rattle.std.specs.Prelude.{All, List, [], false, true, length, ◌≡◌, ◌≤◌, ◌<◌, ◌^◌, ◌*◌, ◌+◌, ◌⊎◌, ℕ, IfErr, IfOk, IsErrOf, IsTrue};
 ghost use Rattle.gl_base.specs.declared.entries.Entry.{Entry};
 ghost use Rattle.gl_base.specs.declared.numbers.Vertex.{Vertex};
 ghost use Rattle.graph_core.specs.DataGraph.{size};
@@ -10,7 +10,9 @@ ghost use Rattle.store.specs.declared.store_format.faults.StoreFault.{StoreFault
 ghost use Rattle.store.specs.declared.store_format.faults.StoreFault.TheVariants.{BadByte};
 ghost use Rattle.engine_runs.specs.Calls.{ArePlacesOf, CallOpening, CanCallGoOn, EndsBy, Header, IsHeaderOf, IsRunAt, Setting, shared_of, snapshots_in};
 ghost use Rattle.engine_runs.specs.declared.answers.runs.StoredEnd.TheVariants as ending;
-ghost use Rattle.engine_runs.specs.Runs.{FromGoodStore, AreJobFailures, ArePlacedFor, BoundsSteps, CanBeCut, HasCallBegun, HasTraceOf, HasRoomForRun, IsEndAt, IsFinishedOrNoMemory, IsEntryOf, IsGoodStore, IsInRange, IsRunBy, IsRunSo, IsPlacement, IsStoredRun, RunErrorCause, BeginErrorCause, KeepsByOwner, KeepsGood, input_shared, lists_of, refused_by, run_shared, stored_order};
+ghost use Rattle.engine_runs.specs.Runs.{FromGoodStore, AreJobFailures, ArePlacedFor, BoundsSteps, CanBeCut, HasCallBegun, HasTraceOf, HasRoomForRun, IsEndAt, IsFinishedOrNoMemory, IsEntryOf, IsGoodStore, IsInRange, IsRunBy, IsRunSo, IsPlacement, IsStoredRun, RunErrorCause, BeginErrorCause, KeepsByOwner, KeepsGood, input_shared, lists_of, machine_plan, refused_by, run_shared, stored_order};
+ghost use Rattle.engine_runs.specs.answers.Unstored.{HasRestartsFirst, IsUnstoredRun};
+ghost use Rattle.engine_runs.specs.unstored.Inner.Going.{GivesUnstored};
 ghost use Rattle.update_api.specs.Updates.{Update};
 
 use crate::answers::{RunInput, SnapLine, StoredEnd, StoredRun};
@@ -72,8 +74,8 @@ pub fn run_stored<R: Wait, D: Disk, P: Program>(
     ensures engine { IsTrue D.observable →
         IfOk result (λ run. FromGoodStore input.now (P.meaning program)
         journal.old.header (snapshots_in D.past journal.old) (λ owner.
-        IsRunBy input.now.graph.now input.now.cut.now (P.meaning program) input.now.plan
-        input.now.failures.now (lists_of run))) }
+        IsRunBy input.now.graph.now input.now.cut.now (P.meaning program)
+        (machine_plan input.now.plan) input.now.failures.now (lists_of run))) }
 
     // From such a store, that is as long as one may grow or shorter, no run is refused for the
     // store or a record: memory ran out, or the disk failed before the run began.
@@ -169,7 +171,8 @@ fn begin<D: Disk, P: Program>(
         (shared_of st input.now.failures.now ≡ run_shared input.now.graph.now (P.meaning program)
         call.places input.now.failures.now)) }
     ensures places { IfOk result (λ call.
-        ArePlacedFor input.now.graph.now input.now.cut.now input.now.plan call.places) }
+        ArePlacedFor input.now.graph.now input.now.cut.now (machine_plan input.now.plan)
+        call.places) }
     ensures failures { IfOk result (λ call. call.trace.failures ≡ input.now.failures.now) }
     ensures saves { IfOk result (λ call. call.saves_end ≡ input.now.plan.saves_end) }
     ensures refused { IfErr result
@@ -250,8 +253,14 @@ pub(crate) fn gathered<P: Program>(
     ensures run { IfOk result (λ run.
         (program : Update) (header : Header) (start added : List (List ℕ)) (st : Setting)
         (o : CallOpening) → IsRunAt graph.now program call.places st →
-        IsEndAt P.meaning call header start added st o end →
+        IsEndAt P.meaning call header start added st o end → st.stored ≡ true →
         IsRunSo call.saves_end st failures.now o start added run) }
+    ensures alone { IfOk result (λ run. (program : Update) (header : Header) (st : Setting)
+        (o : CallOpening) → IsRunAt graph.now program call.places st →
+        (at : IsEndAt P.meaning call header [] [] st o end) → o.resumed ≡ false →
+        GivesUnstored P.meaning at.paused st at.known.was.cluster end →
+        HasRestartsFirst run.order.items →
+        IsUnstoredRun (shared_of st failures.now) st.machines o.first.left run) }
     ensures trace { IfOk result (λ run.
         (program : Update) (header : Header) (start added : List (List ℕ)) (st : Setting)
         (o : CallOpening) → IsRunAt graph.now program call.places st →

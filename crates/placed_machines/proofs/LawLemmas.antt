@@ -12,7 +12,7 @@ use Rattle.update_api.specs.Updates.{Update}
 use Rattle.snapshot_machines.proofs.wave_counts.CountLemmas.{total_from-nothing}
 use Rattle.placed_machines.specs.Beginning.{AreColoursFor, BaseView, Cluster, IsAttemptFrom, IsBaseFor, IsSnapSetting, Setting}
 use Rattle.placed_machines.specs.declared.placing.SavingRun.{SavingRun}
-use Rattle.placed_machines.proofs.RunLemmas.{engine_of, run_setting, runs_by}
+use Rattle.placed_machines.proofs.RunLemmas.{engine_of, run_setting, runs_by, window_back}
 
 -- machines that have admitted so many scopes and done nothing else
 abbrev cluster_behind : Setting → List ℕ → ℕ → ℕ → ℕ → Cluster
@@ -49,8 +49,7 @@ attempt_begins g program owner colours run base serials next left store_end grap
         placed = record { graph = refl; machines = refl; owners = λ v inside. refl };
         program_is = refl;
         pipeline = refl;
-        stored = refl;
-        window = refl;
+        window = window_back run.window;
       };
       of_base = record {
         number = refl;

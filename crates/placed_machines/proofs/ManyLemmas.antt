@@ -19,7 +19,7 @@ goes_with st window terms s goes =
 saves_with : (st : Setting) (program : Update) (base : Base) (terms : NewTerms) (places : Places) (s : ℕ) → SavesBy st program base terms places → SavesBy st program base (with_serial terms s) places
 saves_with st program base terms places s saves =
     record {
-      goes = goes_with (with_locking st) (Some places.run.window) terms s saves.goes;
+      goes = goes_with (with_locking st) places.run.window terms s saves.goes;
       locks = saves.locks;
       engine = saves.engine;
       window_is = saves.window_is;

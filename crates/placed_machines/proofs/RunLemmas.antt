@@ -1,6 +1,6 @@
 -- The settings in which an attempt begins.
-use Rattle.std.proofs.Common.{◌≡◌, ◌<◌, ℕ, ◌∙◌, Bool, true, if◌then◌else◌, Some, None, List, length, All, ap, sym, subst, refl, slice_index}
-use Rattle.std.specs.Prelude.{slice_index_or}
+use Rattle.std.proofs.Common.{◌≡◌, ◌<◌, ℕ, ◌∙◌, Bool, true, false, if◌then◌else◌, Option, Some, None, List, length, All, ap, sym, subst, refl, slice_index}
+use Rattle.std.specs.Prelude.{is_some, slice_index_or}
 use Rattle.cluster_laws.specs.cluster_core.Recovering.{going_on}
 use Rattle.cluster_laws.specs.cluster_core.Settings as law
 use Rattle.coordinator.specs.declared.coord_core.steps.Engine.{Engine}
@@ -9,6 +9,7 @@ use Rattle.gl_base.specs.declared.numbers.AtomNo.{AtomNo}
 use Rattle.gl_base.specs.declared.numbers.MachineNo.{MachineNo}
 use Rattle.gl_base.specs.declared.snapshots.Base.{Base}
 use Rattle.graph_core.specs.DataGraph.{DataGraph, IsDataGraph, size}
+use Rattle.machine_core.specs.machine_parts.Settings.{window_of}
 use Rattle.placement.proofs.places.OwnerLemmas.{owner_low}
 use Rattle.placement.specs.declared.places.cores.NewTerms.{NewTerms}
 use Rattle.placed_machines.specs.Beginning.{AreColoursFor, AreAnyMachinesOf, BaseView, IsBaseFor, IsBaseOf, IsSavingRunOf, placed_owner}
@@ -29,6 +30,40 @@ runs_by (Chromatic greatest) colours st is = ((λ v. slice_index_or colours v 0)
 
 -- ---- one setting
 
+-- how many updates a window has, 0 where there is none
+abbrev pub window_or : Option ℕ → ℕ
+window_or None = 0
+window_or (Some window) = window
+
+pub window_back : (window : Option ℕ) → (if is_some window then Some (window_or window) else None) ≡ window
+window_back None = refl
+window_back (Some window) = refl
+
+same_in : (one other : ℕ) → Some one ≡ Some other → one ≡ other
+same_in one other is = cc
+
+none_in : (window : ℕ) → None ≡ Some window → ⊥
+none_in window is = cc
+
+some_in : (window : ℕ) → Some window ≡ None → ⊥
+some_in window is = cc
+
+stored_by : (b : Bool) (k window : ℕ) → (if b then Some k else None) ≡ Some window → (b ≡ true) × (k ≡ window)
+stored_by true k window is = (refl, same_in k window is)
+stored_by false k window is = absurd (none_in window is)
+
+-- with a window snapshots are taken
+pub stored_with : (st : Setting) (window : ℕ) → window_of st ≡ Some window → (st.stored ≡ true) × (st.window ≡ window)
+stored_with st window is = stored_by st.stored st.window window is
+
+unstored_by : (b : Bool) (k : ℕ) → (if b then Some k else None) ≡ None → b ≡ false
+unstored_by true k is = absurd (some_in k is)
+unstored_by false k is = refl
+
+-- and without one none are
+pub unstored_with : (st : Setting) → window_of st ≡ None → st.stored ≡ false
+unstored_with st is = unstored_by st.stored st.window is
+
 -- in which the attempt begins
 abbrev pub run_setting : DataGraph → Update → (ℕ → ℕ) → List ℕ → SavingRun → Base → Setting
 run_setting g program owner colours run base =
@@ -39,8 +74,8 @@ run_setting g program owner colours run base =
       machines = run.machines;
       pipeline = run.pipeline;
       engine = engine_of run.engine colours;
-      stored = true;
-      window = run.window;
+      stored = is_some run.window;
+      window = window_or run.window;
       start = record { vertex = slice_index base.values.items; edge = slice_index base.edges.items };
       base = base.number;
     }
@@ -54,8 +89,7 @@ is_run g program owner colours run base graph low for =
       placed = record { graph = refl; machines = refl; owners = λ v inside. refl };
       program_is = refl;
       pipeline = refl;
-      stored = refl;
-      window = refl;
+      window = window_back run.window;
       begins =
           record {
             vertices = record { count = for.vertices; each = λ k inside. refl };
@@ -73,7 +107,7 @@ some_run g program of owner colours run base graph each atoms below for =
 -- ---- terms
 
 pub goes_by : (g : DataGraph) (program : Update) (owner : ℕ → ℕ) (colours : List ℕ) (run : SavingRun) (base : Base) (st : Setting) (n : ℕ) (locks : Bool) → n ≡ size g → IsRunFrom g program owner colours run base st →
-    GoesBy (with_locking st) (Some run.window) (record { terms = record { pipeline = run.pipeline; base = base.number; locks = locks }; machines = run.machines; vertices = n; serial = 0 })
+    GoesBy (with_locking st) run.window (record { terms = record { pipeline = run.pipeline; base = base.number; locks = locks }; machines = run.machines; vertices = n; serial = 0 })
 goes_by g program owner colours run base st n locks many is =
     record {
       is = record { graph = is.is.graph; owner = is.is.owner };
@@ -81,12 +115,12 @@ goes_by g program owner colours run base st n locks many is =
       vertices = ap size is.placed.graph ∙ sym many;
       engine = refl;
       pipeline = is.pipeline;
-      window_is = ap (λ (b : Bool). if b then Some st.window else None) is.stored ∙ ap (λ (k : ℕ). Some k) is.window;
+      window_is = is.window;
       base = is.begins.number;
     }
 
 module _ (g : DataGraph) (program : Update) (owner : ℕ → ℕ) (base : Base) (places : Places) (terms : NewTerms) (locks : terms.terms.locks ≡ takes_locks places.run.engine)
-    (st : Setting) (from : IsRunFrom g program owner places.colours.items places.run base st) (goes : GoesBy (with_locking st) (Some places.run.window) terms) where
+    (st : Setting) (from : IsRunFrom g program owner places.colours.items places.run base st) (goes : GoesBy (with_locking st) places.run.window terms) where
   pub saves_by : SavesBy st program base terms places
   saves_by = record { goes = goes; locks = locks; engine = from.engine; window_is = sym goes.window_is; program_is = from.program_is; begins = from.begins }
 
@@ -119,7 +153,6 @@ module _ (g : DataGraph) (program : Update) (owner : ℕ → ℕ) (colours : Lis
     placed = record { graph = runs.placed.graph; machines = runs.placed.machines; owners = runs.placed.owners };
     program_is = runs.program_is;
     pipeline = runs.pipeline;
-    stored = runs.stored;
     window = runs.window;
     begins = record { vertices = of.vertices; edges = of.edges; number = of.number };
   }

@@ -5,7 +5,7 @@ pub use Rattle.placement.specs.graphs.Placed.{IsOwnedBy, placed_owner}
 pub use Rattle.coordinator.specs.machine_api.Going.{IsSnapSetting}
 pub use Rattle.placed_machines.specs.any_machine.Machines.{IsAnyMachineOf, Setting}
 pub use Rattle.placed_machines.specs.declared.any_machine.machines.AnyMachine.{AnyMachine}
-use Rattle.std.specs.Prelude.{All, List, length, slice_index, slice_index_or, true, ⊤, ℕ, ◌<◌, ◌≡◌}
+use Rattle.std.specs.Prelude.{All, List, length, slice_index, slice_index_or, ⊤, ℕ, ◌<◌, ◌≡◌}
 use Rattle.cluster_laws.specs.cluster_core.Recovering.{going_on}
 use Rattle.cluster_laws.specs.cluster_core.Settings as law
 use Rattle.cluster_laws.specs.cluster_model.Events.{recovers}
@@ -14,6 +14,7 @@ use Rattle.coordinator.specs.declared.coord_core.steps.Engine.TheVariants.{Chrom
 use Rattle.gl_base.specs.declared.snapshots.Base.{Base}
 use Rattle.graph_core.specs.Colourings.{IsProperColouring}
 use Rattle.graph_core.specs.DataGraph.{DataGraph, size}
+use Rattle.machine_core.specs.machine_parts.Settings.{window_of}
 use Rattle.seq_run.specs.Runs.{AreNumbers}
 use Rattle.update_api.specs.Updates.{Update}
 use Rattle.placed_machines.specs.declared.placing.Places.{Places}
@@ -34,15 +35,14 @@ AreColoursFor g (Chromatic greatest) colours = (length colours ≡ size g) × Is
 -- ---- runs
 
 -- The cluster runs this program on this graph, with these owners of the vertices, and these colours where vertices run by colours. So many
--- scopes of one machine may be in flight; snapshots are taken, with this window.
+-- scopes of one machine may be in flight; snapshots are taken with this window, or without one none are.
 pub record IsSavingRunOf (g : DataGraph) (program : Update) (owner : ℕ → ℕ) (colours : List ℕ) (run : SavingRun) (st : Setting) : Type 0 where
   pub setting : IsSnapSetting st
   pub engine : RunsBy run.engine colours st
   pub placed : IsOwnedBy g run.machines owner st
   pub program_is : st.program ≡ program
   pub pipeline : st.pipeline ≡ run.pipeline
-  pub stored : st.stored ≡ true
-  pub window : st.window ≡ run.window
+  pub window : window_of st ≡ run.window
 
 -- Each vertex of the graph is in an atom, each atom on a machine, and there are so many machines; and the colours are such that the graph may
 -- run by them.

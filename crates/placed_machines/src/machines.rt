@@ -30,7 +30,7 @@ fn new_locking<P: Program>(
         IfOk result (IsAnyMachineOf P.meaning st local.me.0
         (goes_back st st.start st.base local.me.0 m)) }
 {
-    let numbers = first_numbers(alloc, local, base, Some(places.run.window))?;
+    let numbers = first_numbers(alloc, local, base, places.run.window)?;
     let core = new_core(alloc, numbers, terms)?;
     let machine = SnapMachine::new(alloc, core, program)?;
     new_member(alloc, machine, places)

@@ -23,10 +23,10 @@ pub fn new_member<P: Program>(
 ) -> Result<AnyMachine<P>, NoMemory>
     requires { FitsEngine P.meaning places.now.run.engine places.now.colours.items machine }
     ensures { IfOk result
-        (IsNewMember places.now.run.engine places.now.colours.items (Some places.now.run.window)
+        (IsNewMember places.now.run.engine places.now.colours.items places.now.run.window
         machine) }
 {
-    let window = Some(places.run.window);
+    let window = places.run.window;
     match places.run.engine {
         Engine::Locking => Ok(AnyMachine::Locking(LockingMachine::new(alloc, machine, window))),
         Engine::Chromatic(_) => {

@@ -18,14 +18,14 @@ use update_api::Program;
 
 /// How an attempt that takes snapshots runs: on so many machines, of which each has so many scopes
 /// in flight at most, with its vertices in an order that begins at `first`, where it owns that; at
-/// most `window` updates of one machine are outside the last snapshot that was acknowledged; and so
-/// updates are kept apart.
+/// most `window` updates of one machine are outside the last snapshot that was acknowledged, where
+/// snapshots are taken; and so updates are kept apart.
 #[derive(Clone, Copy)]
 pub struct SavingRun {
     pub machines: u16,
     pub pipeline: u16,
     pub first: Vertex,
-    pub window: u32,
+    pub window: Option<u32>,
     pub engine: Engine,
 }
 
@@ -91,7 +91,7 @@ fn parts_of(alloc: Global, graph: &Graph, places: &Places) -> Result<Vec<LocalGr
 fn terms_of(graph: &Graph, base: &Base, run: SavingRun) -> NewTerms
     ensures goes { (st : Setting) (program : Update) (owner : ℕ → ℕ) (colours : List ℕ) →
         IsRunFrom graph.now program owner colours run base.now st →
-        GoesBy (with_locking st) (Some run.window) result }
+        GoesBy (with_locking st) run.window result }
     ensures locks { result.terms.locks ≡ takes_locks run.engine }
     ensures graph { IsDataGraph graph.now }
 {

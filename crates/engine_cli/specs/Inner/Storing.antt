@@ -1,5 +1,5 @@
 -- What running a job on its store answers, at each of its steps.
-use Rattle.std.specs.Prelude.{◌≡◌, ◌⊎◌, ◌+◌, ◌*◌, ◌^◌, ◌<◌, ◌≤◌, ℕ, Bool, false, true, List, length}
+use Rattle.std.specs.Prelude.{◌≡◌, ◌⊎◌, ◌+◌, ◌*◌, ◌^◌, ◌<◌, ◌≤◌, ℕ, Bool, Some, false, true, List, length}
 use Rattle.graph_atoms.specs.declared.atom_gather.cuts.Cut.{Cut}
 use Rattle.gl_base.specs.declared.entries.Entry.{Entry}
 use Rattle.gl_base.specs.declared.numbers.Vertex.{Vertex}
@@ -26,7 +26,7 @@ use Rattle.engine_runs.specs.answers.Images.{IsGoodStore, KeepsGood}
 use Rattle.engine_runs.specs.declared.answers.runs.StoredEnd.TheVariants as end
 use Rattle.engine_runs.specs.declared.answers.runs.StoredRun.{StoredRun}
 use Rattle.update_api.specs.Updates.{Update}
-use Rattle.engine_cli.specs.JobRuns.{BoundsSteps, HasRoomForRun, IsRunBy, IsStoredRun, RunsOnStore, Shared, lists_of, plan_with, records_size, stored_in, stored_order}
+use Rattle.engine_cli.specs.JobRuns.{BoundsSteps, HasRoomForRun, IsRunBy, IsStoredRun, RunsOnStore, Shared, lists_of, machines_for, records_size, store_plan, stored_in, stored_order}
 use Rattle.engine_cli.specs.JobStores.{IsNotRunFrom, KeepsGoing, KeepsImages, RefusesStore}
 
 -- what all attempts of a run of this program share
@@ -41,11 +41,11 @@ pub record IsStoreRunFrom (job : JobSayings) (g : DataGraph) (cut : Cut) (p : Up
       × KeepsGood (shared_with job g p owner) header bodies snapshots old new
   pub placed : (owner : ℕ → ℕ) × IsPlacement g cut job.fields.machines owner
   pub machines : (owner : ℕ → ℕ) → IsPlacement g cut job.fields.machines owner → IsGoodStore (shared_with job g p owner) header bodies →
-      IsRunBy g cut p (plan_with job true job.fields.window) job.failures (lists_of run)
+      IsRunBy g cut p (machines_for job (Some job.fields.window)) job.failures (lists_of run)
   pub enough : (owner : ℕ → ℕ) → IsPlacement g cut job.fields.machines owner → IsGoodStore (shared_with job g p owner) header bodies →
       (bound : ℕ) → BoundsSteps g p bound → (1 + length job.failures) * bound ≤ job.fields.budget → (left : Vertex) → run.end ≡ end.Spent left → ⊥
   pub roomy : (owner : ℕ → ℕ) → IsPlacement g cut job.fields.machines owner → IsGoodStore (shared_with job g p owner) header bodies →
-      HasRoomForRun g (plan_with job true job.fields.window) (length job.failures) (length bodies) (65 + records_size bodies) → (stored bytes : ℕ) → run.end ≡ end.Full stored bytes → ⊥
+      HasRoomForRun g (store_plan job) (length job.failures) (length bodies) (65 + records_size bodies) → (stored bytes : ℕ) → run.end ≡ end.Full stored bytes → ⊥
   pub full : (stored bytes : ℕ) → run.end ≡ end.Full stored bytes → (stored ≡ length (stored_in header new.now.seen)) × (bytes ≡ 65 + records_size (stored_in header new.now.seen))
 
 -- a good store with these snapshots may have got others, and keeps what it had

@@ -13,8 +13,10 @@ use Rattle.call_laws.specs.call_answers.Answers.{IsRunWithFailures, KeepsToWindo
 use Rattle.call_laws.specs.call_answers.Traces.{IsMerge, ListsOfTrace, all_logged, machine_logs}
 use Rattle.cluster_step.specs.trace.Calls.{HasEndedCall, LeavesNothing, MakesCall}
 use Rattle.cluster_step.specs.trace.Traces.{CallOpening, Cluster, TraceView, IsTraceNow, Machine, Setting, first_cluster, first_setting}
-use Rattle.engine_runs.specs.finish.Ends.{IsEndedRun, IsKnownTrace, NoneReached, orders_behind, records_size, shared_of, stored_order}
-use Rattle.engine_runs.specs.finish.Gathered.{RunLists, reached_places}
+use Rattle.engine_runs.specs.finish.Ends.{IsEndedRun, IsKnownTrace, NoneReached, PauseMeaning, SpendsRun, orders_behind, records_size, shared_of, stored_order}
+use Rattle.engine_runs.specs.finish.Gathered.{IsTaskIn, RunLists, reached_places}
+use Rattle.cluster_step.specs.declared.drive.pauses.Pause.TheVariants as pause
+use Rattle.gl_base.specs.declared.numbers.Vertex.{Vertex}
 use Rattle.engine_runs.proofs.Sizes.{orders_many}
 use Rattle.engine_runs.proofs.finish.RoomLemmas.{needs_room, never_full}
 use Rattle.cluster_laws.specs.cluster_model.Leading.{Snapshot}
@@ -81,6 +83,12 @@ module _ {M : Type 0} (represents : Setting → ℕ → Machine → M → Type 0
       let sum : sum_by (λ count. count) lists.done + c.left ≡ o.first.left =
       ap (λ (n : ℕ). n + c.left) (counts_sum (shared_of st v.failures) call is lists order_is lost_is fired st.machines done made.8) ∙ made.5.spent in
       let unharmed : NoneReached represents v → call.last.struck ≡ 0 = λ none. made.9 (λ a low. none a (subst (λ (n : ℕ). a < n) (sym machines_are) low) st o known.was.events c now) in
+      let spends : PauseMeaning represents v pause.Spent → (left : Vertex) → IsTaskIn st c left.0 → SpendsRun (shared_of st v.failures) o.first.left left.0 call.last.struck lists = λ paused left task. record {
+        spent = counts_sum (shared_of st v.failures) call is lists order_is lost_is fired st.machines done made.8 ∙ (paused.1 st o known.was.events c now call makes).0;
+        answered = unharmed paused.0;
+        inside = task.0;
+        task = ap (λ (es : List Entry). tasks_after st.graph st.program es left.0) order_is ∙ (of.tasks left.0 task.0).1 (inl task.1);
+      } in
       record {
         call = call;
         makes = makes;
@@ -89,13 +97,13 @@ module _ {M : Type 0} (represents : Setting → ℕ → Machine → M → Type 0
         snapshots = once;
         is = subst₂ (λ (ks : List Entry) (r : Bool). IsRunWithFailures (shared_of st v.failures) st.machines ks r call.last.struck lists) of.base of.was_resumed
             (run_is (shared_of st v.failures) call is lists order_is lost_is fired st.machines done made.8);
-        keeps = subst (λ (ks : List Entry). KeepsToWindow st.window ks (snapshots_of call) lists) of.base (window_is (shared_of st v.failures) call is lists order_is lost_is fired st v.failures refl (made.2 known.fits.taken));
+        keeps = λ takes. subst (λ (ks : List Entry). KeepsToWindow st.window ks (snapshots_of call) lists) of.base (window_is (shared_of st v.failures) call is lists order_is lost_is fired st v.failures refl (made.2 takes));
         few = sum_few (sum_by (λ count. count) lists.done) c.left o.first.left sum;
-        finished = λ saves paused. let has : HasEndedCall st call = paused.1 st o known.was.events c now call makes in record {
+        finished = λ takes saves paused. let has : HasEndedCall st call = paused.1 st o known.was.events c now call makes in record {
           finished = λ u low. ap (λ (es : List Entry). tasks_after st.graph st.program es u) order_is ∙ has.tasks u low;
           answered = has.unharmed;
-          some = λ _. has.some known.fits.taken;
-          saved = λ _. ap (λ (ks : List Entry). last_order ks (snapshots_of call)) (sym of.base) ∙ has.saved known.fits.taken ∙ sym order_is;
+          some = λ _. has.some takes;
+          saved = λ _. ap (λ (ks : List Entry). last_order ks (snapshots_of call)) (sym of.base) ∙ has.saved takes ∙ sym order_is;
         };
         quiet = λ paused. let leaves : LeavesNothing st call = paused.1 st o known.was.events c now call makes in record {
           finished = λ u low. ap (λ (es : List Entry). tasks_after st.graph st.program es u) order_is ∙ leaves.tasks u low;
@@ -103,18 +111,14 @@ module _ {M : Type 0} (represents : Setting → ℕ → Machine → M → Type 0
           some = λ saves. absurd (true≢false (sym saves));
           saved = λ saves. absurd (true≢false (sym saves));
         };
-        spent = λ paused left task saves.
+        spent = spends;
+        spent_room = λ takes paused left task saves.
             let spent = paused.1 st o known.was.events c now call makes in
-            let left_task : tasks_after st.graph st.program lists.order left.0 ≡ true = ap (λ (es : List Entry). tasks_after st.graph st.program es left.0) order_is ∙ (of.tasks left.0 task.0).1 (inl task.1) in (
-              record {
-                spent = counts_sum (shared_of st v.failures) call is lists order_is lost_is fired st.machines done made.8 ∙ spent.0;
-                answered = unharmed paused.0;
-                inside = task.0;
-                task = left_task;
-              },
-              never_full st v.failures o.kept o.resumed c call of (length start + length (snapshots_of call)) 0 [] [] [] (spent.2 known.fits.taken)
+            let spends_all = spends paused left task in (
+              spends_all,
+              never_full st v.failures o.kept o.resumed c call of (length start + length (snapshots_of call)) 0 [] [] [] (spent.2 takes)
                   (known.count ∙ ap (length {A = List ℕ}) known.was.keeps.stored ∙ length-append start added ∙ ap (λ (n : ℕ). length start + n) (sym (orders_many (stored_order start) added) ∙ ap (length {A = List Entry}) once))
-                  lists.order order_is left.0 task.0 left_task,
+                  lists.order order_is left.0 task.0 spends_all.task,
             );
         full = λ none needs saves. (
           unharmed none,

@@ -1,10 +1,9 @@
 -- The next attempt, from what the store has.
-use Rattle.std.proofs.Common.{◌≡◌, ℕ, ◌+◌, ◌*◌, ◌<◌, ◌++◌, ◌∙◌, true, List, [], ◌∷◌, ap, ap₂, filter, if◌then◌else◌, Some, length, refl, subst, sym, ⊎_elim}
+use Rattle.std.proofs.Common.{◌≡◌, ℕ, ◌+◌, ◌*◌, ◌<◌, ◌++◌, ◌∙◌, true, List, [], ◌∷◌, ap, ap₂, filter, if◌then◌else◌, length, refl, subst, sym, ⊎_elim}
 use Rattle.std.specs.Prelude.{slice_index_or}
 use Rattle.gl_base.specs.declared.entries.Entry.{Entry}
 use Rattle.gl_base.specs.declared.snapshots.Base.{Base}
 use Rattle.call_laws.specs.attempts.Stores.{last_order}
-use Rattle.cluster_step.proofs.trace.Going.{stored_now}
 use Rattle.cluster_step.specs.trace.Traces.{first_setting}
 use Rattle.cluster_laws.specs.cluster_model.Events as law
 use Rattle.cluster_laws.specs.cluster_model.Leading.{Snapshot}
@@ -21,8 +20,9 @@ use Rattle.recovery.proofs.Goodness.{last_behind}
 use Rattle.recovery.specs.GoodStores.{IsGoodBase, IsGoodStore, orders_behind}
 use Rattle.recovery.specs.Recovered.{IsRecovered}
 use Rattle.recovery.specs.Orders.{AreNumbers, replay}
-use Rattle.engine_runs.proofs.attempt_machines.BeginLemmas.{go_back, run_now}
+use Rattle.engine_runs.proofs.attempt_machines.BeginLemmas.{back_with, begins_so, run_now}
 use Rattle.engine_runs.proofs.attempt_machines.EngineLemmas.{led_by}
+use Rattle.engine_runs.specs.attempt_machines.Beginning.{if_taken}
 use Rattle.engine_runs.specs.stores.Stores.{first_cluster, fronts_in, recorded_in}
 use Rattle.recovery.specs.records.Keeping.{AreNextOrders}
 use Rattle.update_api.specs.Updates.{Update}
@@ -38,7 +38,7 @@ use Rattle.engine_runs.specs.rollback.Returning.{ArePlacesOf, BaseView, AnyMachi
 pub starts_so : {P : Type 0} (meaning : P → Update) (g : DataGraph) (program : Update) (places : Places) (many : ℕ) (base : Base) (serials : List ℕ) (machines : List (AnyMachine P)) (next left : ℕ) → IsDataGraph g → ArePlacesOf g many places → IsBaseFor g base →
     ((st : Setting) (view : BaseView) (before : Cluster) → IsRunAt g program places st → IsBaseOf st base view → HaveAdmitted st serials before → AreAnyMachinesOf meaning st view before machines) →
     (store : StoreView) → store.vertices ≡ size g → store.edges ≡ length g.edges → store.newest ≡ base.number →
-    (st : Setting) × (to : BaseView) × (before : Cluster) × StartsSaving (IsAnyMachineOf meaning) machines places.run.engine (Some store) next left st to before
+    (st : Setting) × (to : BaseView) × (before : Cluster) × StartsSaving (IsAnyMachineOf meaning) machines places.run.engine (if_taken places.run.window store) next left st to before
 starts_so meaning g program places many base serials machines next left graph placed for stand store vertices edges newest =
     let owner : ℕ → ℕ = placed_owner places.of.items places.owner.items in
     let at : IsAttemptFrom g program owner places.colours.items places.run base serials next left store.store_end =
@@ -53,13 +53,8 @@ starts_so meaning g program places many base serials machines next left graph pl
         led = led_by places.run.engine places.colours.items at.st at.runs.engine;
         many = are.many;
         each = are.each;
-        begins = record {
-          stored = at.runs.stored;
-          vertices = ap size at.runs.placed.graph ∙ sym vertices;
-          edges = ap (λ (x : DataGraph). length x.edges) at.runs.placed.graph ∙ sym edges;
-          newest = at.of_base.number ∙ sym newest;
-          store_end = at.store_end_is;
-        };
+        begins = begins_so places.run.window at.st at.runs.window store at.view at.before (ap size at.runs.placed.graph ∙ sym vertices) (ap (λ (x : DataGraph). length x.edges) at.runs.placed.graph ∙ sym edges)
+            (at.of_base.number ∙ sym newest) (λ stored. at.store_end_is);
         first = at.next_is;
         tickets = at.left_is;
       },
@@ -190,17 +185,14 @@ module _ {P : Type 0} (meaning : P → Update) (g : DataGraph) (program : Update
       module _ (machines : List (AnyMachine P)) (stand : (to : BaseView) → IsRunAt g program places now → IsBaseOf now base to → AreAnyMachinesOf meaning now to c machines)
           (store : StoreView) (vertices : store.vertices ≡ size g) (edges : store.edges ≡ length g.edges) (newest : store.newest ≡ base.number) (place : store.store_end ≡ v.now.coordinator.saving.store_end + 16 * failures)
           (ahead later gone : List Entry) (ahead_is : ahead ≡ stored ++ missing) (later_is : later ≡ lost ++ gone) (takes : (to : BaseView) → to.order ≡ base.order.items → law.GoesBackTo now c to → TakesAway now c to gone) where
-        now_stored : now.stored ≡ true
-        now_stored = stored_now st o events runs.stored
+        store_end_is : now.stored ≡ true → (law.recovers now to c).coordinator.store_end ≡ store.store_end
+        store_end_is takes = ap₂ (λ (n k : ℕ). n + 16 * k) ((is.code.coordinator.saving takes).store_end) (failures_now ∙ sym failures_are) ∙ sym place
 
-        store_end_is : (law.recovers now to c).coordinator.store_end ≡ store.store_end
-        store_end_is = ap₂ (λ (n k : ℕ). n + 16 * k) ((is.code.coordinator.saving now_stored).store_end) (failures_now ∙ sym failures_are) ∙ sym place
-
-        pub goes_so : RestartsFrom meaning v machines places.run.engine (Some store) base.order.items lost later front ahead st o events c
+        pub goes_so : RestartsFrom meaning v machines places.run.engine (if_taken places.run.window store) base.order.items lost later front ahead st o events c
         goes_so = record {
           to = to;
-          back = go_back st o events meaning places.run.engine v c to store machines is runs.stored (led_by places.run.engine places.colours.items st runs.engine) back_to.5 has.running has.each (stand to run_here of_base)
-              (ap size graph_is ∙ sym vertices) (ap (λ (x : DataGraph). length x.edges) graph_is ∙ sym edges) (of_base.number ∙ sym newest) store_end_is;
+          back = back_with st o events meaning places.run.engine v c to (if_taken places.run.window store) machines is (led_by places.run.engine places.colours.items st runs.engine) back_to.5 has.running has.each (stand to run_here of_base)
+              (begins_so places.run.window now run_here.window store to c (ap size (graph_now ∙ graph_is) ∙ sym vertices) (ap (λ (x : DataGraph). length x.edges) (graph_now ∙ graph_is) ∙ sym edges) (of_base.number ∙ sym newest) store_end_is);
           number = back_to.1;
           order_is = order_is;
           gone = gone;

@@ -1,5 +1,6 @@
 -- A call has started from what a store has.
 use Rattle.std.proofs.Common.{Bool, List, [], ap, append-nil, arith, filter, if◌then◌else◌, inl, inr, length, length-append, min, refl, subst, sym, true, false, ℕ, ◌*◌, ◌++◌, ◌+◌, ◌-◌, ◌<◌, ◌^◌, ◌∙◌, ◌∷◌, ◌≡◌, ◌≤◌, ◌⊎◌}
+use Rattle.std.specs.Prelude.{is_some}
 use Rattle.std.specs.declared.alloc.Global.{Global}
 use Rattle.std.specs.declared.vec.Vec.{Vec}
 use Rattle.std.proofs.lemmas.List.Elements.{filter-append}
@@ -16,7 +17,7 @@ use Rattle.gl_base.specs.declared.jobs.FailureAt.{FailureAt}
 use Rattle.graph_core.specs.DataGraph.{DataGraph, IsDataGraph, size}
 use Rattle.placement.proofs.places.OwnerLemmas.{owner_low}
 use Rattle.recovery.specs.opened_store.Opening.{IsGoodBase, ticket_above}
-use Rattle.placed_machines.proofs.RunLemmas.{engine_of, runs_by}
+use Rattle.placed_machines.proofs.RunLemmas.{engine_of, runs_by, window_back, window_or}
 use Rattle.placed_machines.specs.declared.placing.Places.{Places}
 use Rattle.recovery.specs.Journals.{records_size, stored_in, stored_order}
 use Rattle.recovery.specs.Recovered.{IsRecovered}
@@ -96,8 +97,8 @@ some_setting g program places machines failures graph are =
       machines = places.run.machines;
       pipeline = places.run.pipeline;
       engine = engine_of places.run.engine places.colours.items;
-      stored = true;
-      window = places.run.window;
+      stored = is_some places.run.window;
+      window = window_or places.run.window;
       start = record { vertex = λ v. 0; edge = λ e. 0 };
       base = 0;
     } in (
@@ -108,8 +109,7 @@ some_setting g program places machines failures graph are =
         placed = record { graph = refl; machines = refl; owners = λ v inside. refl };
         program_is = refl;
         pipeline = refl;
-        stored = refl;
-        window = refl;
+        window = window_back places.run.window;
       },
       refl,
     )
@@ -182,7 +182,7 @@ module _ {P : Type 0} (meaning : P → Update) (g : DataGraph) (program : Update
       known_is = record {
         kept = order_is;
         was = stored_trace;
-        fits = record { taken = runs.stored; machines = header_machines ∙ sym machines_are; n = of.n ∙ ap size (sym runs.placed.graph); m = of.m ∙ ap (λ (x : DataGraph). length x.edges) (sym runs.placed.graph) };
+        fits = record { machines = header_machines ∙ sym machines_are; n = of.n ∙ ap size (sym runs.placed.graph); m = of.m ∙ ap (λ (x : DataGraph). length x.edges) (sym runs.placed.graph) };
         stored_are = op.stored ∙ ap (filter is_restart) order_is;
         base = front_order;
         front_are = op.front;

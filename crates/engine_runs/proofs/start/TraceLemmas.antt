@@ -1,8 +1,8 @@
 -- The course of a call opens with the machines that were made for it.
-use Rattle.std.proofs.Common.{Bool, List, [], ap, length, refl, replicate, slice_index, subst, sym, ℕ, zero, suc, ◌+◌, ◌<◌, ◌^◌, ◌∙◌, ◌≡◌, Some}
+use Rattle.std.proofs.Common.{Bool, List, [], ap, length, refl, replicate, slice_index, subst, sym, ℕ, zero, suc, ◌+◌, ◌<◌, ◌^◌, ◌∙◌, ◌≡◌}
 use Rattle.std.specs.declared.alloc.Global.{Global}
 use Rattle.std.specs.declared.vec.Vec.{Vec}
-use Rattle.cluster_step.specs.trace.Traces.{CallOpening, TraceView, IsTraceNow, OpensCall, StartsCall, StartsSaving, StoreView, first_cluster}
+use Rattle.cluster_step.specs.trace.Traces.{CallOpening, TraceView, IsTraceNow, OpensCall, StartsCall, StartsSaving, first_cluster}
 use Rattle.engine_runs.specs.start.Inner.Openings.{CanOpenWith, IsStoreOf, OpensWith, base_with}
 use Rattle.engine_runs.specs.start.Starting.{Base, AnyMachine, IsAnyMachineOf, Setting, opening_from}
 use Rattle.coordinator.specs.coord_core.Stores.{store_view}
@@ -13,9 +13,9 @@ use Rattle.graph_core.specs.DataGraph.{DataGraph, size}
 use Rattle.recovery.specs.opened_store.Opening.{base_opened, cluster_before, ticket_above}
 use Rattle.placed_machines.specs.Beginning.{AreAnyMachinesOf, BaseView, Cluster, HaveAdmitted, IsAttemptFrom, IsBaseOf, IsSavingRunOf}
 use Rattle.placed_machines.specs.declared.placing.SavingRun.{SavingRun}
-use Rattle.engine_runs.proofs.attempt_machines.BeginLemmas.{start_call}
+use Rattle.engine_runs.proofs.attempt_machines.BeginLemmas.{begins_so, ends_there, start_with}
 use Rattle.engine_runs.proofs.attempt_machines.EngineLemmas.{led_by}
-use Rattle.engine_runs.specs.attempt_machines.Beginning.{store_from}
+use Rattle.engine_runs.specs.attempt_machines.Beginning.{if_taken}
 use Rattle.update_api.specs.Updates.{Update}
 
 -- how many scopes machines have admitted that are new
@@ -28,7 +28,7 @@ none_admitted (suc n) (suc a) = none_admitted n a
 module _ {P : Type 0} (meaning : P → Update) (g : DataGraph) (program : Update) (owner : ℕ → ℕ) (colours : List ℕ) (run : SavingRun) (base : Base) (serials : List ℕ) (store : Store) (of_store : IsStoreOf g base store) (members : List (AnyMachine P))
     (stand : (st : Setting) (view : BaseView) (before : Cluster) → IsSavingRunOf g program owner colours run st → IsBaseOf st base view → HaveAdmitted st serials before → AreAnyMachinesOf meaning st view before members) where
   -- they begin an attempt of the law
-  pub starts_some : (next left : ℕ) → IsAttemptFrom g program owner colours run base serials next left store.length → (st : Setting) × (view : BaseView) × (before : Cluster) × StartsSaving (IsAnyMachineOf meaning) members run.engine (Some (store_view store)) next left st view before
+  pub starts_some : (next left : ℕ) → IsAttemptFrom g program owner colours run base serials next left store.length → (st : Setting) × (view : BaseView) × (before : Cluster) × StartsSaving (IsAnyMachineOf meaning) members run.engine (if_taken run.window (store_view store)) next left st view before
   starts_some next left is =
       let are : AreAnyMachinesOf meaning is.st is.view is.before members = stand is.st is.view is.before is.runs is.of_base is.admitted in (
         is.st,
@@ -39,13 +39,8 @@ module _ {P : Type 0} (meaning : P → Update) (g : DataGraph) (program : Update
           led = led_by run.engine colours is.st is.runs.engine;
           many = are.many;
           each = are.each;
-          begins = record {
-            stored = is.runs.stored;
-            vertices = ap size is.runs.placed.graph ∙ sym of_store.vertices;
-            edges = ap (λ (x : DataGraph). length x.edges) is.runs.placed.graph ∙ sym of_store.edges;
-            newest = is.of_base.number ∙ sym of_store.newest;
-            store_end = is.store_end_is;
-          };
+          begins = begins_so run.window is.st is.runs.window (store_view store) is.view is.before (ap size is.runs.placed.graph ∙ sym of_store.vertices) (ap (λ (x : DataGraph). length x.edges) is.runs.placed.graph ∙ sym of_store.edges)
+              (is.of_base.number ∙ sym of_store.newest) (λ stored. is.store_end_is);
           first = is.next_is;
           tickets = is.left_is;
         },
@@ -66,22 +61,15 @@ module _ {P : Type 0} (meaning : P → Update) (g : DataGraph) (program : Update
     admitted : HaveAdmitted st serials (cluster_before st (ticket_above kept.items) budget base.length)
     admitted a low = none_admitted many a ∙ ap (λ (xs : List ℕ). slice_index xs a) (sym zeros)
 
-    store_is : store_from st first ≡ store_view store
-    store_is =
-        let vertices : size st.graph ≡ store.vertices = ap size runs.placed.graph ∙ sym of_store.vertices in
-        let edges : length st.graph.edges ≡ store.edges = ap (λ (x : DataGraph). length x.edges) runs.placed.graph ∙ sym of_store.edges in
-        let newest : base.number ≡ store.newest = sym of_store.newest in
-        let long : base.length ≡ store.length = sym of_store.length_is in
-        λ i. record { vertices = vertices i; edges = edges i; newest = newest i; store_end = long i }
-
     -- they start the call
-    pub starts_call : StartsCall (IsAnyMachineOf meaning) members run.engine (Some (store_view store)) next left failures st (opening_from st resumed first budget)
+    pub starts_call : StartsCall (IsAnyMachineOf meaning) members run.engine (if_taken run.window (store_view store)) next left failures st (opening_from st resumed first budget)
     starts_call =
-        subst (λ (s : StoreView). StartsCall (IsAnyMachineOf meaning) members run.engine (Some s) next left failures st (opening_from st resumed first budget)) store_is
-        (subst (λ (n : ℕ). StartsCall (IsAnyMachineOf meaning) members run.engine (Some (store_from st first)) n left failures st (opening_from st resumed first budget)) (sym can.next_is)
-        (subst (λ (n : ℕ). StartsCall (IsAnyMachineOf meaning) members run.engine (Some (store_from st first)) (ticket_above kept.items) n failures st (opening_from st resumed first budget)) (sym (all can.few))
-        (start_call meaning run.engine st failures resumed first budget members runs.setting runs.stored (led_by run.engine colours st runs.engine) can.good can.ordered can.begins
-        (stand st (base_opened resumed first) (cluster_before st (ticket_above kept.items) budget base.length) runs view_of admitted))))
+        subst (λ (n : ℕ). StartsCall (IsAnyMachineOf meaning) members run.engine (if_taken run.window (store_view store)) n left failures st (opening_from st resumed first budget)) (sym can.next_is)
+        (subst (λ (n : ℕ). StartsCall (IsAnyMachineOf meaning) members run.engine (if_taken run.window (store_view store)) (ticket_above kept.items) n failures st (opening_from st resumed first budget)) (sym (all can.few))
+        (start_with meaning run.engine st failures resumed first budget members (if_taken run.window (store_view store)) runs.setting (led_by run.engine colours st runs.engine) can.good can.ordered can.begins
+        (stand st (base_opened resumed first) (cluster_before st (ticket_above kept.items) budget base.length) runs view_of admitted)
+        (begins_so run.window st runs.window (store_view store) (base_opened resumed first) (cluster_before st (ticket_above kept.items) budget base.length) (ap size runs.placed.graph ∙ sym of_store.vertices)
+        (ap (λ (x : DataGraph). length x.edges) runs.placed.graph ∙ sym of_store.edges) (sym of_store.newest) (λ stored. ends_there st resumed first budget ∙ sym of_store.length_is))))
 
 -- what is opened
 pub opens_so : {P : Type 0} (meaning : P → Update) (v : TraceView (AnyMachine P)) (st : Setting) (failures : List FailureAt) (resumed : Bool) (base : Base) (budget : ℕ) → OpensCall (IsAnyMachineOf meaning) v.start v.failures st (opening_from st resumed base budget) →

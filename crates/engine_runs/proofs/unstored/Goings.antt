@@ -1,5 +1,5 @@
 -- A call without a store goes on.
-use Rattle.std.proofs.Common.{◌≡◌, ℕ, ◌<◌, ◌≤◌, ◌∙◌, List, [], ap, length, subst, subst₂, sym}
+use Rattle.std.proofs.Common.{◌≡◌, ℕ, ◌∙◌, List, [], ap, length, subst, subst₂, sym}
 use Rattle.std.specs.Prelude.{false}
 use Rattle.engine_runs.proofs.Backs.{some_reached}
 use Rattle.engine_runs.proofs.Begun.{from_started}
@@ -10,7 +10,6 @@ use Rattle.engine_runs.specs.rollback.Returning.{HasReachedSome, IsKnownTrace}
 use Rattle.engine_runs.specs.start.Starting.{HasStarted}
 use Rattle.engine_runs.specs.unstored.Inner.Going.{ArePlacesOf, AreRestartsAlone, CallOpening, CanGoOnUnstored, GoesOnUnstored, HasBegunUnstored, Header, IsAnyMachineOf, IsHeaderOf, IsKnownAt, IsRunAt, IsSameCall, PausesUnsaved, Setting, StoredCall}
 use Rattle.gl_base.specs.declared.entries.Entry.{Entry}
-use Rattle.gl_base.specs.declared.jobs.FailureAt.{FailureAt}
 use Rattle.gl_base.specs.declared.numbers.MachineNo.{MachineNo}
 use Rattle.graph_core.specs.DataGraph.{DataGraph, size}
 use Rattle.placed_machines.specs.declared.placing.Places.{Places}
@@ -48,8 +47,8 @@ module _ {P : Type 0} (meaning : P → Update) (g : DataGraph) (program : Update
   goes_to call mid same attempt known can = record {
     can = record {
       places = subst₂ (λ (n : ℕ) (p : Places). ArePlacesOf g n p) (sym attempt.machines) (sym attempt.places) can.places;
-      machines = subst (λ (n : ℕ). n < 65535) (sym attempt.machines) can.machines;
-      failures = subst (λ (fs : List FailureAt). length fs ≤ 65536) (sym attempt.failures) can.failures;
+      graph = can.graph;
+      window = ap (λ (p : Places). p.run.window) attempt.places ∙ can.window;
       running = attempt.stopped ∙ can.running;
       stored = ap (λ (c : StoredCall P). c.restarts.stored.items) same ∙ can.stored;
       snapshots = ap (λ (c : StoredCall P). c.snapshots.items) same ∙ can.snapshots;
@@ -70,8 +69,8 @@ module _ {P : Type 0} (meaning : P → Update) (g : DataGraph) (program : Update
   goes_back call later attempt snapshots stored running alone m reached back can = record {
     can = record {
       places = subst₂ (λ (n : ℕ) (p : Places). ArePlacesOf g n p) (sym attempt.machines) (sym attempt.places) can.places;
-      machines = subst (λ (n : ℕ). n < 65535) (sym attempt.machines) can.machines;
-      failures = subst (λ (fs : List FailureAt). length fs ≤ 65536) (sym attempt.failures) can.failures;
+      graph = can.graph;
+      window = ap (λ (p : Places). p.run.window) attempt.places ∙ can.window;
       running = running;
       stored = ap (λ v. v.items) stored ∙ can.stored;
       snapshots = ap (λ v. v.items) snapshots ∙ can.snapshots;

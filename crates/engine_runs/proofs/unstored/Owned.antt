@@ -1,21 +1,16 @@
 -- A run without a store, by whatever owners the placement gives.
 use Rattle.std.proofs.Common.{◌≡◌, ℕ, ◌<◌, ◌≤◌, ◌+◌, ◌*◌, ◌∙◌, ◌⊎◌, Bool, List, [], ◌∷◌, ap, arith, false, inl, inr, length, refl, subst, subst₂, sym}
-use Rattle.std.specs.Prelude.{⊤}
 use Rattle.call_laws.proofs.call_budgets.Stretches.{made_fewer}
 use Rattle.call_laws.specs.attempts.EngineCalls.{made_of}
-use Rattle.call_laws.specs.call_answers.Answers.{IsRunWithFailures}
-use Rattle.call_laws.specs.call_answers.Ends.{SpendsRun}
 use Rattle.cluster_step.proofs.trace.Calling.{makes_call}
-use Rattle.engine_runs.proofs.Owners.{HasOwner, run_named, with_owner}
+use Rattle.engine_runs.proofs.Owners.{HasOwner, with_owner}
 use Rattle.engine_runs.proofs.unstored.Again.{first_in}
 use Rattle.engine_runs.specs.Calls.{AreSnapLines, Cluster, TraceView, AnyMachine, PauseGives}
-use Rattle.engine_runs.specs.Runs.{ArePlacedFor, BoundsSteps, HasTraceOf, IsEndAt, IsPlacement, IsRunBy, IsRunSo, IsStoredRun, RunLists, Shared, lists_of, owned_shared}
-use Rattle.engine_runs.specs.answers.Ends.{RunEndMeaning}
-use Rattle.engine_runs.specs.answers.Unstored.{EndsUnstored, HasRestartsFirst, IsUnstoredRun}
-use Rattle.engine_runs.specs.declared.answers.runs.SnapLine.{SnapLine}
+use Rattle.engine_runs.specs.Runs.{ArePlacedFor, BoundsSteps, HasTraceOf, IsEndAt, IsPlacement, IsRunBy, RunLists, Shared, lists_of, owned_shared}
+use Rattle.engine_runs.specs.answers.Unstored.{HasRestartsFirst, IsUnstoredRun}
 use Rattle.engine_runs.specs.declared.answers.runs.StoredEnd.{StoredEnd}
 use Rattle.engine_runs.specs.declared.answers.runs.StoredEnd.TheVariants as end
-use Rattle.engine_runs.specs.declared.answers.runs.StoredPlan.{StoredPlan}
+use Rattle.engine_runs.specs.declared.answers.runs.MachinePlan.{MachinePlan}
 use Rattle.engine_runs.specs.declared.answers.runs.StoredRun.{StoredRun}
 use Rattle.engine_runs.specs.unstored.Inner.Going.{AreRestartsAlone, CallOpening, EndsCallUnstored, GivesUnstored, GoesOnUnstored, HasBegunUnstored, Header, IsAnyMachineOf, IsHeaderOf, IsKnownAt, IsRunAt, Setting, StoredCall}
 use Rattle.gl_base.specs.declared.jobs.FailureAt.{FailureAt}
@@ -32,19 +27,6 @@ use Rattle.update_api.specs.Updates.{Update}
 
 -- ---- the ends
 
--- nothing is left, or the budget is spent
-abbrev IsOwnEnd : StoredEnd → Type 0
-IsOwnEnd end.Finished = ⊤
-IsOwnEnd (end.Spent left) = ⊤
-IsOwnEnd (end.Full stored bytes) = ⊥
-IsOwnEnd end.DiskFault = ⊥
-
-own_end : {P : Type 0} (meaning : P → Update) (v : TraceView (AnyMachine P)) (st : Setting) (c : Cluster) (how : StoredEnd) → GivesUnstored meaning v st c how → IsOwnEnd how
-own_end meaning v st c end.Finished gives = tt
-own_end meaning v st c (end.Spent left) gives = tt
-own_end meaning v st c (end.Full stored bytes) gives = gives
-own_end meaning v st c end.DiskFault gives = gives
-
 -- as the pause of a call whose end is not saved gives it
 gives_so : {P : Type 0} (meaning : P → Update) (v : TraceView (AnyMachine P)) (st : Setting) (o : CallOpening) (c : Cluster) (how : StoredEnd) → GivesUnstored meaning v st c how → PauseGives false meaning v [] st o c how
 gives_so meaning v st o c end.Finished gives = inr (refl, gives)
@@ -52,40 +34,9 @@ gives_so meaning v st o c (end.Spent left) gives = gives
 gives_so meaning v st o c (end.Full stored bytes) gives = absurd gives
 gives_so meaning v st o c end.DiskFault gives = tt
 
-no_lines : (shared : Shared) (number : ℕ) (lines : List SnapLine) → AreSnapLines shared number [] lines → lines ≡ []
-no_lines shared number [] are = refl
-no_lines shared number (line ∷ lines) are = absurd are
-
--- a run with nothing stored, of which no snapshot was acknowledged
-module _ (shared : Shared) (machines window budget : ℕ) (run : StoredRun) (ran : IsStoredRun false shared machines window budget 0 [] false [] run) (own : IsOwnEnd run.end) where
-  abbrev ends_so : StoredEnd → Type 0
-  ends_so = RunEndMeaning false shared machines window budget 0 [] [] ran.unanswered (lists_of run)
-
-  answered : (how : StoredEnd) → ends_so how → IsOwnEnd how → ran.unanswered ≡ 0
-  answered end.Finished ends alone = ends.answered
-  answered (end.Spent left) ends alone = ends.0.answered
-  answered (end.Full stored bytes) ends alone = absurd alone
-  answered end.DiskFault ends alone = absurd alone
-
-  ended : (how : StoredEnd) → ends_so how → IsOwnEnd how → EndsUnstored shared budget (lists_of run) how
-  ended end.Finished ends alone = ends.finished
-  ended (end.Spent left) ends alone = subst (λ (n : ℕ). SpendsRun shared budget left.0 n (lists_of run)) (answered (end.Spent left) ends alone) ends.0
-  ended (end.Full stored bytes) ends alone = alone
-  ended end.DiskFault ends alone = alone
-
-  unstored : HasRestartsFirst run.order.items → IsUnstoredRun shared machines budget run
-  unstored again = record {
-    is = subst (λ (n : ℕ). IsRunWithFailures shared machines [] false n (lists_of run)) (answered run.end ran.ends own) ran.is;
-    again = again;
-    few = ran.few;
-    snapshots = no_lines shared 1 run.snapshots.items ran.lines;
-    numbers_are = ran.numbers_are;
-    ends = ended run.end ran.ends own;
-  }
-
 -- ---- the run
 
-module _ {P : Type 0} (meaning : P → Update) (g : DataGraph) (program : Update) (cut : Cut) (plan : StoredPlan) (failures : List FailureAt) (call later : StoredCall P) (how : StoredEnd)
+module _ {P : Type 0} (meaning : P → Update) (g : DataGraph) (program : Update) (cut : Cut) (plan : MachinePlan) (failures : List FailureAt) (call later : StoredCall P) (how : StoredEnd)
     (graph : IsDataGraph g) (placed : ArePlacedFor g cut plan call.places)
     (one : (owner other : ℕ → ℕ) → IsPlacement g cut plan.run.machines owner → IsPlacement g cut plan.run.machines other → (v : ℕ) → v < size g → owner v ≡ other v)
     (begun : (header : Header) (st : Setting) → IsHeaderOf g header → header.machines ≡ plan.run.machines → IsRunAt g program call.places st → HasBegunUnstored meaning call header plan.run.budget st)
@@ -131,20 +82,19 @@ module _ {P : Type 0} (meaning : P → Update) (g : DataGraph) (program : Update
 
     -- what it is
     pub run_owned : (run : StoredRun) →
-        ((program : Update) (header : Header) (start added : List (List ℕ)) (st : Setting) (o : CallOpening) → IsRunAt g program later.places st → IsEndAt meaning later header start added st o how → IsRunSo later.saves_end st failures o start added run) →
+        ((program : Update) (header : Header) (st : Setting) (o : CallOpening) → IsRunAt g program later.places st → (at : IsEndAt meaning later header [] [] st o how) → o.resumed ≡ false → GivesUnstored meaning at.paused st at.known.was.cluster how →
+        HasRestartsFirst run.order.items → IsUnstoredRun (shared_of st failures) st.machines o.first.left run) →
         ((program : Update) (header : Header) (start added : List (List ℕ)) (st : Setting) (o : CallOpening) → IsRunAt g program later.places st → (at : IsEndAt meaning later header start added st o how) →
         HasTraceOf failures st o at.known.was.events at.known.was.cluster (lists_of run)) →
-        run.end ≡ how → IsUnstoredRun (owned_shared g program owner failures) plan.run.machines plan.run.budget run
+        IsUnstoredRun (owned_shared g program owner failures) plan.run.machines plan.run.budget run
     unfolding at
-    run_owned run ran trace ended_so =
-        let so : IsRunSo false st failures o [] [] run = subst (λ (saves : Bool). IsRunSo saves st failures o [] [] run) goes.can.saves (ran program header [] [] st o there at) in
-        let stored : IsStoredRun false (owned_shared g program owner failures) plan.run.machines plan.window plan.run.budget 0 [] false [] run =
-        run_named false st failures o [] [] run (owned_shared g program owner failures) plan.run.machines plan.window plan.run.budget 0 false (has owner placement).shared_is
-        ((has owner placement).runs.placed.machines ∙ placed.are.many) ((has owner placement).runs.window ∙ placed.window) starts.tickets refl starts.resumed_is so in
+    run_owned run ran trace =
         let listed = trace program header [] [] st o there at in
-        unstored (owned_shared g program owner failures) plan.run.machines plan.window plan.run.budget run stored
-        (subst IsOwnEnd (sym ended_so) (own_end meaning later.trace st known.was.cluster how gives))
-        (first_in st failures o.kept o.base o.first known.was.events known.was.cluster (lists_of run) o.resumed listed.0 listed.1 (subst AreRestartsAlone (sym known.base) goes.can.restarts))
+        let again : HasRestartsFirst run.order.items =
+        first_in st failures o.kept o.base o.first known.was.events known.was.cluster (lists_of run) o.resumed listed.0 listed.1 (subst AreRestartsAlone (sym known.base) goes.can.restarts) in
+        subst (λ (s : Shared). IsUnstoredRun s plan.run.machines plan.run.budget run) (has owner placement).shared_is
+        (subst₂ (λ (m b : ℕ). IsUnstoredRun (shared_of st failures) m b run) ((has owner placement).runs.placed.machines ∙ placed.are.many) starts.tickets
+        (ran program header st o there at starts.resumed_is gives again))
 
     -- which machines ran
     pub run_by : (lists : RunLists) →

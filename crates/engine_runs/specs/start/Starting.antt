@@ -12,7 +12,7 @@ pub use Rattle.engine_runs.specs.attempt_machines.Beginning.{opening_from, share
 pub use Rattle.store.specs.snap_journal.Journals.{JournalState, snapshots_in}
 pub use Rattle.engine_runs.specs.stores.Stores.{IsKnownTrace}
 pub use Rattle.call_laws.specs.whole_calls.Following.{AreJobFailures}
-use Rattle.std.specs.Prelude.{All, Bool, List, [], false, if◌then◌else◌, length, true, ℕ, ◌+◌, ◌≡◌, ◌≤◌}
+use Rattle.std.specs.Prelude.{All, Bool, List, Some, [], false, if◌then◌else◌, length, true, ℕ, ◌+◌, ◌≡◌, ◌≤◌}
 use Rattle.engine_runs.specs.declared.start.starting.Started.{Started}
 use Rattle.graph_atoms.specs.declared.atom_gather.cuts.Cut.{Cut}
 use Rattle.cluster_laws.specs.cluster_runs.Attempts.{Shared}
@@ -28,6 +28,7 @@ use Rattle.store.specs.snap_journal.Disks.{DiskPast, Rose}
 use Rattle.store.specs.declared.snap_journal.faults.JournalFault.{JournalFault}
 use Rattle.store.specs.declared.snap_journal.faults.JournalFault.TheVariants.{BadStore, DiskFault, Failed, Full, NoMemory}
 use Rattle.store.specs.declared.store_format.header.Header.{Header}
+use Rattle.engine_runs.specs.declared.answers.runs.MachinePlan.{MachinePlan}
 use Rattle.engine_runs.specs.declared.answers.runs.StoredPlan.{StoredPlan}
 use Rattle.update_api.specs.Updates.{Update}
 
@@ -41,8 +42,12 @@ abbrev pub IsEngineAsked : EngineKind → ℕ → Engine → ℕ → List ℕ �
 IsEngineAsked Locking asked engine pipeline colours = (engine ≡ by.Locking) × (pipeline ≡ asked)
 IsEngineAsked Chromatic asked engine pipeline colours = (greatest : ℕ) × (engine ≡ by.Chromatic greatest) × All (λ colour. colour ≤ greatest) colours
 
+-- how the machines of a run with a store are made
+abbrev pub machine_plan : StoredPlan → MachinePlan
+machine_plan plan = record { run = plan.run; engine = plan.engine; window = Some plan.window }
+
 -- The graph is cut so and placed as the plan says, and attempts run there as it says.
-pub record ArePlacedFor (g : DataGraph) (cut : Cut) (plan : StoredPlan) (places : Places) : Type 0 where
+pub record ArePlacedFor (g : DataGraph) (cut : Cut) (plan : MachinePlan) (places : Places) : Type 0 where
   pub are : ArePlacesOf g plan.run.machines places
   pub placement : IsPlacement g cut plan.run.machines (placed_owner places.of.items places.owner.items)
   pub window : places.run.window ≡ plan.window

@@ -2,7 +2,7 @@
 pub use Rattle.cluster_step.specs.trace.Traces.{CallOpening, Cluster, TraceGoesOn, TraceView, IsTraceNow, Machine, OpensCall, Setting, as_since, first_cluster, first_setting}
 pub use Rattle.recovery.specs.records.Keeping.{IsGoodStore, IsRecordBehind, KeepsUp, fronts_in, recorded_in, stored_order}
 pub use Rattle.store.specs.declared.store_format.header.Header.{Header}
-use Rattle.std.specs.Prelude.{List, filter, length, true, ℕ, ◌*◌, ◌+◌, ◌≡◌}
+use Rattle.std.specs.Prelude.{List, filter, length, ℕ, ◌*◌, ◌+◌, ◌≡◌}
 use Rattle.gl_base.specs.declared.entries.Entry.{Entry}
 use Rattle.call_laws.specs.attempts.Entries.{is_restart}
 use Rattle.cluster_laws.specs.cluster_model.Events as law
@@ -28,16 +28,16 @@ pub record IsRememberedAt {M : Type 0} (old new : TraceView M) : Type 0 where
 
 -- ---- what is known of a store beside its snapshots
 
--- snapshots are taken, and the store is for these machines and this graph
+-- the store is for these machines and this graph
 pub record IsStoreForSetting (st : Setting) (header : Header) : Type 0 where
-  pub taken : st.stored ≡ true
   pub machines : header.machines ≡ st.machines
   pub n : header.n ≡ size st.graph
   pub m : header.m ≡ length st.graph.edges
 
 -- From this opening, with the order of that store's last snapshot, a course has led here, with which a store for this setting has kept up. These
 -- are the restarts of its last order; the newest attempt began with this order, and these are its restarts. The coordinator knows how many
--- snapshots the store has, and where it ends, with place for the restarts that it lacks.
+-- snapshots the store has, and where it ends, with place for the restarts that it lacks. Without a store this is said of one that has no snapshot,
+-- which nobody writes.
 pub record IsKnownTrace {M : Type 0} (represents : Setting → ℕ → Machine → M → Type 0) (v : TraceView M) (header : Header) (start bodies : List (List ℕ)) (lost stored front order : List Entry) (st : Setting) (o : CallOpening) : Type 0 where
   pub kept : o.kept ≡ stored_order start
   pub was : IsStoredTrace represents v header start bodies lost st o

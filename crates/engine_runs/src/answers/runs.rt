@@ -40,6 +40,16 @@ pub struct StoredPlan {
     pub saves_end: bool,
 }
 
+/// How the machines of a run are made: how the graph is placed and the program run on it, how
+/// updates are kept apart, and how many updates of one machine may be outside the last snapshot
+/// that was acknowledged. Without a window no snapshots are taken.
+#[derive(Clone, Copy)]
+pub struct MachinePlan {
+    pub run: RunPlan,
+    pub engine: EngineKind,
+    pub window: Option<u32>,
+}
+
 /// What a run with a store is made from: the graph, how it is cut, the failures of machines, and
 /// how the program is run.
 #[derive(Clone, Copy)]

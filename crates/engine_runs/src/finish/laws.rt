@@ -6,9 +6,9 @@ ghost use Rattle.gl_base.specs.declared.entries.Entry.{Entry};
 
 use cluster_step::trace::SavingMachine;
 
-/// The lists of a call whose store has kept up are those of a run with failures that keeps to the
-/// window; the store has its snapshots behind those with which it began; and as the course pauses
-/// the run ends: it is finished, or spent, or the store is full.
+/// The lists of a call whose store has kept up are those of a run with failures, which keeps to the
+/// window where snapshots are taken; the store has its snapshots behind those with which it began;
+/// and as the course pauses the run ends: it is finished, or spent, or the store is full.
 pub fn calls_end_so<M: SavingMachine>()
     ensures { (v : TraceView M) (header : Header) (start bodies : List (List ℕ))
         (lost stored front order : List Entry) (st : Setting) (o : CallOpening)

@@ -92,7 +92,7 @@ pub fn go_back<D: Disk, P: Program>(
         alloc,
         next.machines,
         placed.places.run.engine,
-        Some(next.store),
+        next.store,
     ) {
         drop(next.order);
         drop(next.front);

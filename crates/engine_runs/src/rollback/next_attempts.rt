@@ -1,6 +1,7 @@
 //! The next attempt.
-ghost use Rattle.std.specs.Prelude.{◌≡◌, ◌≤◌, ◌<◌, ◌+◌, ◌*◌, ◌^◌, ◌++◌, ℕ, List, Some, filter, length, true, false, IfErr, IfOk, IsTrue};
+ghost use Rattle.std.specs.Prelude.{◌≡◌, ◌≤◌, ◌<◌, ◌+◌, ◌*◌, ◌^◌, ◌++◌, ℕ, List, filter, length, option_map, true, false, IfErr, IfOk, IfSome, IsTrue};
 ghost use Rattle.std.specs.List.{AllByRecursion};
+ghost use Rattle.engine_runs.specs.attempt_machines.Beginning.{if_taken};
 ghost use Rattle.engine_runs.specs.rollback.Returning.{ArePlacesOf, BaseView, Begins, CallOpening, Cluster, RestartsFrom, HasFailures, Header, InEachTrace, IsBaseBehind, IsBaseFor, IsTraceNow, IsAnyMachineOf, IsKnownTrace, IsRunAt, GoBackErrorCause, Setting, StartsSaving, StoreView, is_restart, newest_setting, restarts};
 ghost use Rattle.cluster_laws.specs.cluster_model.Events.{Event, GoesBackTo, failures_in};
 ghost use Rattle.coordinator.specs.coord_core.Stores.{store_view};
@@ -14,6 +15,7 @@ ghost use Rattle.recovery.specs.Recovered.{IsHeaderOf};
 ghost use Rattle.store.specs.snap_journal.Journals.{snapshots_in};
 ghost use Rattle.store.specs.snap_journal.Last.{LastErrorCause};
 
+use crate::attempt_machines::store_where;
 use crate::placed::PlacedProgram;
 use crate::rollback::losing::taken_away;
 use crate::rollback::reading::{failures_now, serials};
@@ -30,24 +32,25 @@ use std::alloc::Global;
 use store::snap_journal::{Journal, JournalFault};
 use update_api::Program;
 
-/// What the next attempt begins with: its machines and what its coordinator knows of the store, its
-/// order and the restarts of that, and the updates that the call has lost then.
+/// What the next attempt begins with: its machines and what its coordinator knows of the store,
+/// where there is one; its order and the restarts of that; and the updates that the call has lost
+/// then.
 #[derive(Drop)]
 pub(crate) struct NextAttempt<P: Program> {
     pub(crate) machines: Vec<AnyMachine<P>>,
-    pub(crate) store: Store,
+    pub(crate) store: Option<Store>,
     pub(crate) order: Vec<Entry>,
     pub(crate) front: Vec<Entry>,
     pub(crate) lost: Vec<Entry>,
 }
 
 /// What all go back to: a base, the restarts behind the stored ones with which its order ends, and
-/// what the coordinator is told of the store.
+/// what the coordinator is told of the store, where there is one.
 #[derive(Drop)]
 pub(crate) struct ReturnPoint {
     pub(crate) base: Base,
     pub(crate) missing: Vec<Entry>,
-    pub(crate) store: Store,
+    pub(crate) store: Option<Store>,
 }
 
 /// The next attempt, from what the store has.
@@ -65,11 +68,11 @@ pub(crate) fn next_attempt<D: Disk, P: Program>(
     requires first { Begins restarts.now.stored.items restarts.now.front.items }
     ensures start { IfOk result (λ next. (st : Setting) × (base : BaseView) × (before : Cluster) ×
         StartsSaving (IsAnyMachineOf P.meaning) next.machines.items placed.now.places.now.run.engine
-        (Some (store_view next.store)) trace.now.now.next trace.now.now.left st base before) }
+        (option_map store_view next.store) trace.now.now.next trace.now.now.left st base before) }
     ensures many { IfOk result (λ next.
         length next.machines.items ≡ length trace.now.now.machines.items) }
-    ensures newest { IfOk result (λ next. next.store.newest + 1 < 2 ^ 32) }
-    ensures short { IfOk result (λ next. next.store.length < 2 ^ 32) }
+    ensures newest { IfOk result (λ next. IfSome next.store (λ s. s.newest + 1 < 2 ^ 32)) }
+    ensures short { IfOk result (λ next. IfSome next.store (λ s. s.length < 2 ^ 32)) }
     ensures first { IfOk result (λ next. Begins restarts.now.stored.items next.front.items) }
     ensures lost { IfOk result (λ next. Begins lost.now next.lost.items) }
     ensures back { IsTrue D.observable →
@@ -80,7 +83,7 @@ pub(crate) fn next_attempt<D: Disk, P: Program>(
         restarts.now.front.items order st o) → HasFailures trace.now st known.was.cluster →
         IfOk result (λ next.
         RestartsFrom P.meaning trace.now next.machines.items placed.now.places.now.run.engine
-        (Some (store_view next.store)) next.order.items lost.now next.lost.items
+        (option_map store_view next.store) next.order.items lost.now next.lost.items
         restarts.now.front.items next.front.items st o known.was.events known.was.cluster) }
     ensures refused { IfErr result
         (GoBackErrorCause (IsTrue D.observable)
@@ -124,7 +127,7 @@ pub(crate) fn next_attempt<D: Disk, P: Program>(
     let back = ReturnPoint {
         base,
         missing,
-        store,
+        store: store_where(placed.places.run.window, store),
     };
     let Ok(next) = attempt_from(alloc, trace, placed, restarts, lost, back) else {
         return Err(JournalFault::NoMemory);
@@ -201,7 +204,8 @@ pub(crate) fn attempt_from<P: Program>(
         store.edges ≡ length placed.now.graph.now.edges → store.newest ≡ back.base.number →
         (st : Setting) × (to : BaseView) × (before : Cluster) ×
         StartsSaving (IsAnyMachineOf P.meaning) next.machines.items placed.now.places.now.run.engine
-        (Some store) trace.now.now.next trace.now.now.left st to before) }
+        (if_taken placed.now.places.now.run.window store) trace.now.now.next trace.now.now.left
+        st to before) }
 {
     let ReturnPoint {
         base,
@@ -284,7 +288,8 @@ fn machines_from<P: Program>(
         store.edges ≡ length graph.now.edges → store.newest ≡ base.now.number →
         (st : Setting) × (to : BaseView) × (before : Cluster) ×
         StartsSaving (IsAnyMachineOf P.meaning) machines.items places.now.run.engine
-        (Some store) trace.now.now.next trace.now.now.left st to before) }
+        (if_taken places.now.run.window store) trace.now.now.next trace.now.now.left
+        st to before) }
 {
     let serials = serials(alloc, trace)?;
     let machines = machines_of_attempt(alloc, graph, program, base, places, &serials)?;

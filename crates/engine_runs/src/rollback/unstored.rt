@@ -1,11 +1,11 @@
 //! All machines of a call without a store go back to the start.
-ghost use Rattle.std.specs.Prelude.{◌≡◌, ◌≤◌, ◌<◌, ◌+◌, ◌*◌, ◌^◌, ℕ, List, [], Some, false, length, IfOk, OnOk};
+ghost use Rattle.std.specs.Prelude.{◌≡◌, ◌+◌, ◌<◌, ◌^◌, ℕ, List, [], None, false, length, option_map, IfOk, IfSome, OnOk};
 ghost use Rattle.cluster_laws.specs.cluster_model.Clusters.{BaseView, Cluster};
 ghost use Rattle.coordinator.specs.coord_core.Stores.{store_view};
 ghost use Rattle.engine_runs.specs.rollback.Returning.{ArePlacesOf, CallOpening, RestartsFrom, HasFailures, HasReachedSome, Header, IsBaseBehind, IsBaseFor, IsAnyMachineOf, IsKnownTrace, IsRunAt, Setting, StartsSaving};
 ghost use Rattle.engine_runs.specs.unstored.Inner.Going.{AreRestartsAlone};
 ghost use Rattle.gl_base.specs.declared.entries.Entry.{Entry};
-ghost use Rattle.graph_core.specs.DataGraph.{IsDataGraph, size};
+ghost use Rattle.graph_core.specs.DataGraph.{IsDataGraph};
 ghost use Rattle.recovery.specs.Orders.{Shared};
 ghost use Rattle.recovery.specs.Recovered.{IsHeaderOf};
 
@@ -13,7 +13,7 @@ use crate::placed::PlacedProgram;
 use crate::rollback::failing::fail_reached;
 use crate::rollback::next_attempts::{NextAttempt, ReturnPoint, attempt_from};
 use crate::rollback::reading::failures_now;
-use cluster_step::trace::{SavingMachine, Store, Trace};
+use cluster_step::trace::Trace;
 use gl_base::{Base, Entry, NoMemory};
 use graph_core::Graph;
 use placed_machines::any_machine::AnyMachine;
@@ -21,12 +21,6 @@ use recovery::restarts::{Restarts, base_behind, missing_restarts};
 use recovery::start_base;
 use std::alloc::Global;
 use update_api::Program;
-
-/// How many bytes a coordinator counts for a restart.
-const RESTART_BYTES: u64 = 16;
-
-/// The most bytes that a coordinator can count.
-const MOST_BYTES: u64 = 4294967295;
 
 /// All machines go back after failures: each that has reached the count of a failure fails, and the
 /// next attempt begins from the start, with the restarts of the attempt before and one for each
@@ -41,8 +35,8 @@ pub(crate) fn go_back_to_start<P: Program>(
 ) -> Result<Vec<Entry>, NoMemory>
     requires places { ArePlacesOf placed.now.graph.now
         (length trace.old.now.machines.items) placed.now.places.now }
-    requires machines { length trace.old.now.machines.items < 65535 }
-    requires failures { length trace.old.failures ≤ 65536 }
+    requires window { placed.now.places.now.run.window ≡ None }
+    requires graph { IsDataGraph placed.now.graph.now }
     requires stored { restarts.old.stored.items ≡ [] }
     // In each setting of a run in which a machine has reached the count of a failure the run goes
     // on.
@@ -69,7 +63,7 @@ pub(crate) fn go_back_to_start<P: Program>(
         alloc,
         next.machines,
         placed.places.run.engine,
-        Some(next.store),
+        next.store,
     ) {
         drop(next.order);
         drop(next.front);
@@ -91,16 +85,16 @@ fn attempt_at_start<P: Program>(
 ) -> Result<NextAttempt<P>, NoMemory>
     requires places { ArePlacesOf placed.now.graph.now
         (length trace.now.now.machines.items) placed.now.places.now }
-    requires machines { length trace.now.now.machines.items < 65535 }
-    requires failures { length trace.now.failures ≤ 65536 }
+    requires window { placed.now.places.now.run.window ≡ None }
+    requires graph { IsDataGraph placed.now.graph.now }
     requires stored { restarts.now.stored.items ≡ [] }
     ensures start { IfOk result (λ next. (st : Setting) × (base : BaseView) × (before : Cluster) ×
         StartsSaving (IsAnyMachineOf P.meaning) next.machines.items placed.now.places.now.run.engine
-        (Some (store_view next.store)) trace.now.now.next trace.now.now.left st base before) }
+        (option_map store_view next.store) trace.now.now.next trace.now.now.left st base before) }
     ensures many { IfOk result (λ next.
         length next.machines.items ≡ length trace.now.now.machines.items) }
-    ensures newest { IfOk result (λ next. next.store.newest + 1 < 2 ^ 32) }
-    ensures short { IfOk result (λ next. next.store.length < 2 ^ 32) }
+    ensures newest { IfOk result (λ next. IfSome next.store (λ s. s.newest + 1 < 2 ^ 32)) }
+    ensures short { IfOk result (λ next. IfSome next.store (λ s. s.length < 2 ^ 32)) }
     ensures alone { IfOk result (λ next. AreRestartsAlone next.order.items) }
     ensures back { (header : Header) (order : List Entry) (st : Setting) (o : CallOpening) →
         IsHeaderOf placed.now.graph.now header →
@@ -110,7 +104,7 @@ fn attempt_at_start<P: Program>(
         HasFailures trace.now st known.was.cluster →
         IfOk result (λ next.
         RestartsFrom P.meaning trace.now next.machines.items placed.now.places.now.run.engine
-        (Some (store_view next.store)) next.order.items lost.now next.lost.items
+        (option_map store_view next.store) next.order.items lost.now next.lost.items
         restarts.now.front.items next.front.items st o known.was.events known.was.cluster) }
 {
     let failures = failures_now(alloc, trace)?;
@@ -125,11 +119,10 @@ fn attempt_at_start<P: Program>(
         drop(missing);
         return Err(NoMemory);
     };
-    let store = no_store(trace, placed.graph, failures);
     let back = ReturnPoint {
         base,
         missing,
-        store,
+        store: None,
     };
     let Ok(next) = attempt_from(alloc, trace, placed, restarts, lost, back) else {
         return Err(NoMemory);
@@ -154,25 +147,4 @@ fn start_with<P: Program>(
     let base = start_base(alloc, graph, program)?;
     let base = base_behind(base, missing)?;
     Ok(base)
-}
-
-/// What the coordinator is told in place of a store, which it hasn't: no snapshot, and as many
-/// bytes as it counts with these failures.
-fn no_store<M: SavingMachine>(trace: &Trace<M>, graph: &Graph, failures: usize) -> Store
-    ensures newest { result.newest ≡ 0 }
-    ensures vertices { result.vertices ≡ size graph.now }
-    ensures graph { IsDataGraph graph.now }
-    ensures edges { result.edges ≡ length graph.now.edges }
-    ensures place { trace.now.now.coordinator.saving.store_end + 16 * failures < 2 ^ 32 →
-        result.length ≡ trace.now.now.coordinator.saving.store_end + 16 * failures }
-    ensures short { result.length < 2 ^ 32 }
-{
-    let length = trace.coordinator().length();
-    let needed = length.saturating_add(RESTART_BYTES.saturating_mul(failures as u64));
-    Store {
-        vertices: graph.n(),
-        edges: graph.m(),
-        newest: 0,
-        length: needed.min(MOST_BYTES),
-    }
 }

@@ -4,7 +4,7 @@ ghost use Rattle.engine_runs.specs.start.Starting.{ArePlacedFor, CanBeCut, IsBas
 ghost use Rattle.engine_runs.specs.start.Inner.Openings.{KeepsApart};
 ghost use Rattle.graph_core.specs.DataGraph.{IsDataGraph};
 
-use crate::answers::StoredPlan;
+use crate::answers::MachinePlan;
 use cluster_step::trace::Engine;
 use gl_base::{Base, EngineKind, NoMemory};
 use graph_atoms::atom_gather::Cut;
@@ -27,7 +27,7 @@ pub(crate) fn places_of(
     graph: &Graph,
     base: &Base,
     cut: &Cut,
-    plan: StoredPlan,
+    plan: MachinePlan,
 ) -> Result<Places, NoMemory>
     requires cut { CanBeCut graph.now cut.now }
     requires plan { IsInRange plan.run }
@@ -58,7 +58,7 @@ pub(crate) fn places_of(
 fn kept_apart(
     alloc: Global,
     graph: &Graph,
-    plan: StoredPlan,
+    plan: MachinePlan,
 ) -> Result<(Engine, u16, Vec<u32>), NoMemory>
     ensures { IfOk result (λ made. KeepsApart graph.now plan made.0 made.1 made.2.items) }
 {

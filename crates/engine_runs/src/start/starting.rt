@@ -1,8 +1,8 @@
 //! A call starts.
 ghost use Rattle.std.specs.Prelude.{◌≡◌, ◌<◌, ◌≤◌, false, length, IfErr, IfOk, IsTrue};
-ghost use Rattle.engine_runs.specs.start.Starting.{AreJobFailures, ArePlacedFor, Begins, CanBeCut, HasStarted, IsGoodStore, IsHeaderOf, IsInRange, IsRunAt, StartErrorCause, Setting, opening_from, restart_room, run_shared, shared_of, snapshots_in};
+ghost use Rattle.engine_runs.specs.start.Starting.{AreJobFailures, ArePlacedFor, Begins, CanBeCut, HasStarted, IsGoodStore, IsHeaderOf, IsInRange, IsRunAt, StartErrorCause, Setting, machine_plan, opening_from, restart_room, run_shared, shared_of, snapshots_in};
 
-use crate::answers::RunInput;
+use crate::answers::{MachinePlan, RunInput};
 use crate::placed::PlacedProgram;
 use crate::start::openings::{Opening, opening_of};
 use crate::start::placing::places_of;
@@ -65,7 +65,8 @@ pub fn start_call<D: Disk, P: Program>(
         started.places input.now.failures.now)) }
 
     ensures places { IfOk result (λ started.
-        ArePlacedFor input.now.graph.now input.now.cut.now input.now.plan started.places) }
+        ArePlacedFor input.now.graph.now input.now.cut.now (machine_plan input.now.plan)
+        started.places) }
     ensures failures { IfOk result (λ started. started.trace.failures ≡ input.now.failures.now) }
     ensures machines { IfOk result (λ started.
         length started.trace.now.machines.items ≡ input.now.plan.run.machines) }
@@ -89,7 +90,12 @@ pub fn start_call<D: Disk, P: Program>(
     let stored = journal.count();
     let base = recover(alloc, journal, input.graph, &program)?;
     let opening = opening_of(alloc, base, stored, resumed)?;
-    let Ok(places) = places_of(alloc, input.graph, &opening.base, input.cut, input.plan) else {
+    let plan = MachinePlan {
+        run: input.plan.run,
+        engine: input.plan.engine,
+        window: Some(input.plan.window),
+    };
+    let Ok(places) = places_of(alloc, input.graph, &opening.base, input.cut, plan) else {
         drop(opening);
         return Err(JournalFault::NoMemory);
     };

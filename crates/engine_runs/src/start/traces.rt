@@ -7,6 +7,7 @@ ghost use Rattle.engine_runs.specs.start.Inner.Openings.{CanOpenWith, IsStoreOf,
 ghost use Rattle.gl_base.specs.declared.entries.Entry.{Entry};
 ghost use Rattle.graph_core.specs.DataGraph.{IsDataGraph};
 
+use crate::attempt_machines::store_where;
 use crate::placed::PlacedProgram;
 use crate::start::openings::Opening;
 use crate::start::tickets::tickets_from;
@@ -20,7 +21,7 @@ use std::alloc::Global;
 use update_api::Program;
 
 /// The course of a call on machines at these places that begins with this, with so many tickets and
-/// failures.
+/// failures. Without a window its coordinator has no store.
 pub(crate) fn trace_of<P: Program>(
     alloc: Global,
     placed: &PlacedProgram<'_, P>,
@@ -60,7 +61,7 @@ pub(crate) fn trace_of<P: Program>(
         alloc,
         machines,
         placed.places.run.engine,
-        Some(store),
+        store_where(placed.places.run.window, store),
         opening.next,
         left,
     )?;

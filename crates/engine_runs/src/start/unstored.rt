@@ -5,7 +5,7 @@ ghost use Rattle.graph_core.specs.DataGraph.{IsDataGraph};
 ghost use Rattle.recovery.specs.Recovered.{IsStartBase};
 ghost use Rattle.store.specs.declared.store_format.header.Header.{Header};
 
-use crate::answers::StoredPlan;
+use crate::answers::MachinePlan;
 use crate::placed::PlacedProgram;
 use crate::start::openings::Opening;
 use crate::start::placing::places_of;
@@ -27,7 +27,7 @@ pub(crate) fn start_unstored<P: Program>(
     graph: &Graph,
     program: P,
     cut: &Cut,
-    plan: StoredPlan,
+    plan: MachinePlan,
     failures: &[FailureAt],
 ) -> Result<Started<P>, NoMemory>
     requires cut { CanBeCut graph.now cut.now }

@@ -1,5 +1,5 @@
 //! A run without a store.
-ghost use Rattle.std.specs.Prelude.{All, List, [], false, length, ◌≡◌, ◌≤◌, ◌<◌, ◌*◌, ◌+◌, ℕ, IfErr, IfOk};
+ghost use Rattle.std.specs.Prelude.{All, List, None, [], false, length, ◌≡◌, ◌≤◌, ◌<◌, ◌*◌, ◌+◌, ℕ, IfErr, IfOk};
 ghost use Rattle.engine_runs.specs.Runs.{AreJobFailures, ArePlacedFor, BoundsSteps, CanBeCut, IsEndAt, IsEntryOf, IsInRange, IsPlacement, IsRunBy, lists_of, owned_shared};
 ghost use Rattle.engine_runs.specs.answers.Unstored.{IsUnstoredRun};
 ghost use Rattle.engine_runs.specs.declared.answers.runs.StoredEnd.TheVariants as ending;
@@ -9,7 +9,7 @@ ghost use Rattle.graph_core.specs.DataGraph.{IsDataGraph, size};
 ghost use Rattle.store.specs.declared.snap_journal.faults.JournalFault.TheVariants as fault;
 ghost use Rattle.update_api.specs.Updates.{Update};
 
-use crate::answers::{StoredEnd, StoredPlan, StoredRun, UnstoredInput};
+use crate::answers::{MachinePlan, StoredEnd, StoredRun, UnstoredInput};
 use crate::calls::StoredCall;
 use crate::running::{call_of, gathered};
 use crate::start::start_unstored;
@@ -21,10 +21,6 @@ use std::alloc::Global;
 use std::sync::Wait;
 use store::snap_journal::JournalFault;
 use update_api::Program;
-
-/// A window in which no machine asks for a snapshot: half of it is the greatest budget that a job
-/// may have.
-const WIDEST_WINDOW: u32 = 33_554_432;
 
 /// Runs a program on the graph, which is cut so, from the start to the end of the run, without a
 /// store. Machines fail as the failures order, and all go back to the start, since no snapshot is
@@ -48,13 +44,12 @@ pub fn run_unstored<R: Wait, P: Program>(
         (owned_shared input.now.graph.now (P.meaning program) owner input.now.failures.now)
         input.now.plan.machines input.now.plan.budget run) }
 
-    // It is a run of machines of this engine, with the plan's pipeline.
-    ensures engine { IfOk result (λ run. (window : ℕ) ×
+    // It is a run of machines of this engine, with the plan's pipeline, that take no snapshots.
+    ensures engine { IfOk result (λ run.
         IsRunBy input.now.graph.now input.now.cut.now (P.meaning program) (record {
           run = input.now.plan;
-          window = window;
           engine = input.now.engine;
-          saves_end = false;
+          window = None;
         }) input.now.failures.now (lists_of run)) }
 
     // Its budget is not spent, where each attempt has as many tickets as it may need.
@@ -69,11 +64,10 @@ pub fn run_unstored<R: Wait, P: Program>(
     ensures numbers { IfOk result (λ run. length run.numbers.items ≡ size input.now.graph.now) }
     ensures entries { IfOk result (λ run. All (IsEntryOf input.now.graph.now) run.order.items) }
 {
-    let plan = StoredPlan {
+    let plan = MachinePlan {
         run: input.plan,
-        window: WIDEST_WINDOW,
         engine: input.engine,
-        saves_end: false,
+        window: None,
     };
     let mut call = begin(alloc, input.graph, program, input.cut, plan, input.failures)?;
     match play_unstored(rt, alloc, input.graph, program, &mut call) {
@@ -94,14 +88,14 @@ fn begin<P: Program>(
     graph: &Graph,
     program: P,
     cut: &Cut,
-    plan: StoredPlan,
+    plan: MachinePlan,
     failures: &[FailureAt],
 ) -> Result<StoredCall<P>, NoMemory>
     requires cut { CanBeCut graph.now cut.now }
     requires plan { IsInRange plan.run }
     requires few { plan.run.machines < 65535 }
     requires failures { AreJobFailures plan.run.machines failures.now }
-    requires places { length failures.now ≤ 65536 }
+    requires window { plan.window ≡ None }
     ensures can { IfOk result (CanGoOnUnstored graph.now) }
     ensures begun { IfOk result (λ call. (header : Header) (st : Setting) →
         IsHeaderOf graph.now header → header.machines ≡ plan.run.machines →

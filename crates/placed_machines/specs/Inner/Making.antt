@@ -8,7 +8,7 @@ pub use Rattle.placement.specs.graphs.Beginnings.{BeginsWith}
 pub use Rattle.placement.specs.graphs.Placed.{AreUnsetParts, IsUnsetPart, LocalView}
 pub use Rattle.update_api.specs.Updates.{Update}
 pub use Rattle.placed_machines.specs.Beginning.{AreColoursFor, AnyMachine, HaveAdmitted, IsAnyMachineOf, IsOwnedBy, RunsBy, Setting}
-use Rattle.std.specs.Prelude.{Bool, List, Some, false, length, slice_index_or, true, ℕ, ◌<◌, ◌≡◌}
+use Rattle.std.specs.Prelude.{Bool, List, false, length, slice_index_or, true, ℕ, ◌<◌, ◌≡◌}
 use Rattle.cluster_laws.specs.cluster_core.Settings.{IsSetting}
 use Rattle.coordinator.specs.declared.coord_core.steps.Engine.{Engine}
 use Rattle.coordinator.specs.declared.coord_core.steps.Engine.TheVariants.{Chromatic, Locking}
@@ -33,17 +33,16 @@ pub record IsRunFrom (g : DataGraph) (program : Update) (owner : ℕ → ℕ) (c
   pub placed : IsOwnedBy g run.machines owner st
   pub program_is : st.program ≡ program
   pub pipeline : st.pipeline ≡ run.pipeline
-  pub stored : st.stored ≡ true
-  pub window : st.window ≡ run.window
+  pub window : window_of st ≡ run.window
   pub begins : BeginsWith st base
 
 -- The cluster goes by these terms, but for its engine, and that is the one of the places; it takes snapshots with the window of the places,
 -- runs this program, and begins from this base.
 pub record SavesBy (st : Setting) (program : Update) (base : Base) (terms : NewTerms) (places : Places) : Type 0 where
-  pub goes : GoesBy (with_locking st) (Some places.run.window) terms
+  pub goes : GoesBy (with_locking st) places.run.window terms
   pub locks : terms.terms.locks ≡ takes_locks places.run.engine
   pub engine : RunsBy places.run.engine places.colours.items st
-  pub window_is : Some places.run.window ≡ window_of st
+  pub window_is : places.run.window ≡ window_of st
   pub program_is : st.program ≡ program
   pub begins : BeginsWith st base
 

@@ -2,6 +2,7 @@
 use Rattle.std.proofs.Common.{ap, length, subst, subst₂, sym, ℕ, ◌∙◌}
 use Rattle.recovery.specs.declared.restarts.restarts.Restarts.{Restarts}
 use Rattle.placed_machines.specs.declared.placing.Places.{Places}
+use Rattle.placed_machines.proofs.RunLemmas.{stored_with}
 use Rattle.engine_runs.proofs.Begun.{begun, from_started}
 use Rattle.engine_runs.specs.Calls.{ArePlacesOf, Begins, IsHeaderOf, IsRunAt}
 use Rattle.store.specs.declared.snap_journal.faults.JournalFault.TheVariants.{BadStore}
@@ -27,6 +28,7 @@ returns-in-Ok-clause-begun g c = λ told st runs good.
     begun g.P.Program.meaning g.D.Disk.past c.call_of.result c.args.journal.now c.start_call.new.journal c.args.resumed c.args.input.now.plan.run.budget st c.args.input.now.failures.now
     (ap (λ x. x.failures) c.call_of.ensures.trace ∙ c.in-Ok.ensures.failures) (c.in-Ok.ensures.past told) (ap (λ j. j.header) c.in-Ok.ensures.kept) good
     (c.length-length.ensures.knows told c.in-Ok.ensures.well.0).durable c.call_of.ensures.lost c.call_of.ensures.snapshots has.opening has.resumed_is has.tickets
+    (stored_with st c.args.input.now.plan.window (there.window ∙ c.in-Ok.ensures.places.window)).0
     (from_started g.P.Program.meaning c.in-Ok.started c.call_of.result c.args.journal.now.header _ st has.opening c.call_of.ensures.trace c.call_of.ensures.restarts c.call_of.ensures.order has.known)
 
 pub returns-in-Err-clause-good : goal.returns-in-Err-clause-good

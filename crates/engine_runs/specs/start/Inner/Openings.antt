@@ -14,7 +14,7 @@ use Rattle.graph_core.specs.DataGraph.{DataGraph, size}
 use Rattle.recovery.specs.opened_store.Opening.{IsGoodBase, ticket_above}
 use Rattle.store.specs.declared.snap_journal.faults.JournalFault.{JournalFault}
 use Rattle.store.specs.declared.snap_journal.faults.JournalFault.TheVariants.{BadStore, DiskFault, Failed, Full, NoMemory}
-use Rattle.engine_runs.specs.declared.answers.runs.StoredPlan.{StoredPlan}
+use Rattle.engine_runs.specs.declared.answers.runs.MachinePlan.{MachinePlan}
 use Rattle.update_api.specs.Updates.{Update}
 
 -- The base with a restart of this ticket behind its order, where the call resumes, and so many bytes more in the store.
@@ -65,6 +65,6 @@ pub record IsStoreOf (g : DataGraph) (base : Base) (store : Store) : Type 0 wher
   pub length_is : store.length ≡ base.length
 
 -- The graph may run by this engine and these colours, and they are those that the plan asks for, with so many scopes in flight.
-pub record KeepsApart (g : DataGraph) (plan : StoredPlan) (engine : Engine) (pipeline : ℕ) (colours : List ℕ) : Type 0 where
+pub record KeepsApart (g : DataGraph) (plan : MachinePlan) (engine : Engine) (pipeline : ℕ) (colours : List ℕ) : Type 0 where
   pub colours_are : AreColoursFor g engine colours
   pub asked : IsEngineAsked plan.engine plan.run.pipeline engine pipeline colours

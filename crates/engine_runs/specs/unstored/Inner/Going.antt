@@ -4,13 +4,13 @@ pub use Rattle.cluster_step.specs.trace.Traces.{CallOpening, TraceView, IsTraceN
 pub use Rattle.engine_runs.specs.Calls.{ArePlacesOf, Cluster, AnyMachine, Header, IsAnyMachineOf, IsHeaderOf, IsKnownAt, IsRunAt, IsSameCall, IsTaskIn, Setting}
 pub use Rattle.engine_runs.specs.declared.calls.StoredCall.{StoredCall}
 use Rattle.std.specs.List.{AllByRecursion}
-use Rattle.std.specs.Prelude.{List, [], false, length, true, ℕ, ◌<◌, ◌≡◌, ◌≤◌}
+use Rattle.std.specs.Prelude.{List, None, [], false, length, true, ℕ, ◌≡◌}
 use Rattle.call_laws.specs.attempts.Entries.{is_restart}
 use Rattle.cluster_step.specs.declared.drive.unsaved.UnsavedPause.TheVariants as unsaved
 use Rattle.engine_runs.specs.declared.answers.runs.StoredEnd.{StoredEnd}
 use Rattle.engine_runs.specs.declared.answers.runs.StoredEnd.TheVariants.{DiskFault, Finished, Full, Spent}
 use Rattle.gl_base.specs.declared.entries.Entry.{Entry}
-use Rattle.graph_core.specs.DataGraph.{DataGraph}
+use Rattle.graph_core.specs.DataGraph.{DataGraph, IsDataGraph}
 use Rattle.update_api.specs.Updates.{Update}
 
 -- all entries are restarts
@@ -24,12 +24,12 @@ pub record HasBegunUnstored {P : Type 0} (meaning : P → Update) (call : Stored
   pub tickets : opening.first.left ≡ budget
   pub known : IsKnownAt meaning call.trace call header [] [] st opening
 
--- The call can go on: its graph is placed on its machines, of which there are not too many, the job orders few failures, and the run wasn't stopped. It has no store and no snapshot,
--- and its newest attempt began with restarts alone.
+-- The call can go on: its graph is placed on its machines, which take no snapshots, and the run wasn't stopped. It has no store and no snapshot, and
+-- its newest attempt began with restarts alone.
 pub record CanGoOnUnstored {P : Type 0} (g : DataGraph) (call : StoredCall P) : Type 0 where
   pub places : ArePlacesOf g (length call.trace.now.machines.items) call.places
-  pub machines : length call.trace.now.machines.items < 65535
-  pub failures : length call.trace.failures ≤ 65536
+  pub graph : IsDataGraph g
+  pub window : call.places.run.window ≡ None
   pub running : call.trace.now.stopped ≡ false
   pub stored : call.restarts.stored.items ≡ []
   pub snapshots : call.snapshots.items ≡ []

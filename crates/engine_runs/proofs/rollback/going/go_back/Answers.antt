@@ -1,5 +1,6 @@
 -- All go back.
-use Rattle.std.proofs.Common.{◌<◌, Some, length, subst, sym}
+use Rattle.std.proofs.Common.{◌<◌, length, subst, sym}
+use Rattle.std.specs.Prelude.{option_map}
 use Rattle.coordinator.specs.coord_core.Stores.{store_view}
 use Rattle.store.specs.snap_journal.Journals.{snapshots_in}
 use Rattle.engine_runs.proofs.rollback.Failings.{fewer, on_err}
@@ -38,6 +39,6 @@ returns-clause-back g c = λ told runs start order st o run known some.
     let fails = c.in_ok-fail_reached.ensures.failed st o known.was.events known.was.cluster known.was.now in
     let after = known_failed (IsAnyMachineOf meaning) old mid failures header start bodies lost stored front order st o known runs some fails in
     let next = lost_read meaning mid header start bodies c.deref.result.now lost c.in_ok-next.next.lost.items stored front c.in_ok-next.next.front.items order c.in_ok-next.next.order.items st o c.in_ok-next.next.machines.items c.args.placed.now.places.now.run.engine
-    (Some (store_view c.in_ok-next.next.store)) c.deref.ensures.value (c.in_ok-next.ensures.back told start order st o run) after.0 after.1 in
+    (option_map store_view c.in_ok-next.next.store) c.deref.ensures.value (c.in_ok-next.ensures.back told start order st o run) after.0 after.1 in
     known_back meaning mid new c.in_default.ensures.same.1 header start bodies lost c.in_ok-next.next.lost.items stored front c.in_ok-next.next.front.items order c.in_ok-next.next.order.items st o
-    c.in_ok-next.next.machines.items c.args.placed.now.places.now.run.engine (Some (store_view c.in_ok-next.next.store)) after.0 next c.in_default.ensures.recovered
+    c.in_ok-next.next.machines.items c.args.placed.now.places.now.run.engine (option_map store_view c.in_ok-next.next.store) after.0 next c.in_default.ensures.recovered

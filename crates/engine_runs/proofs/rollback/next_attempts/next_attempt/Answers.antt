@@ -1,13 +1,16 @@
 -- The next attempt goes on from what the store has.
-use Rattle.std.proofs.Common.{◌≡◌, ◌++◌, ◌∙◌, List, Some, ap, filter, subst, sym}
+use Rattle.std.proofs.Common.{◌≡◌, ◌+◌, ◌++◌, ◌<◌, ◌^◌, ◌∙◌, List, Option, filter, subst, sym, ℕ}
+use Rattle.std.specs.Prelude.{option_map}
 use Rattle.gl_base.specs.declared.entries.Entry.{Entry}
 use Rattle.cluster_laws.specs.cluster_runs.Recorded.{shared_of}
 use Rattle.coordinator.specs.coord_core.Stores.{store_view}
+use Rattle.coordinator.specs.declared.coord_core.stores.Store.{Store}
+use Rattle.engine_runs.proofs.attempt_machines.BeginLemmas.{viewed, where_taken}
 use Rattle.store.specs.snap_journal.Journals.{snapshots_in}
 use Rattle.engine_runs.proofs.rollback.Attempts.{goes_so}
 use Rattle.engine_runs.proofs.rollback.Refusals.{is_full, no_place}
 use Rattle.engine_runs.proofs.rollback.Restarted.{begins_kept}
-use Rattle.engine_runs.specs.rollback.Returning.{Begins, RestartsFrom, IsBaseBehind, IsAnyMachineOf, is_restart, restarts}
+use Rattle.engine_runs.specs.rollback.Returning.{BaseView, Begins, Cluster, RestartsFrom, IsBaseBehind, IsAnyMachineOf, Setting, StartsSaving, StoreView, is_restart, restarts}
 use Rattle.engine_runs.proofs.rollback.next_attempts.next_attempt.Goals as goal
 
 pub missing_restarts-requires : goal.missing_restarts-requires
@@ -24,7 +27,22 @@ pub returns-clause-start : goal.returns-clause-start
 returns-clause-start g c =
     let made = c.in-Ok-attempt_from.ensures in
     let store = c.in-Ok-store_behind.ensures in
-    made.start (store_view c.in-Ok-attempt_from.next.store) (ap (λ s. s.vertices) made.store ∙ store.vertices) (ap (λ s. s.edges) made.store ∙ store.edges) (ap (λ s. s.newest) made.store ∙ store.newest)
+    let view = store_view c.in-Ok-store_behind.store in
+    subst
+    (λ (s : Option StoreView).
+    (st : Setting) × (base : BaseView) × (before : Cluster) × StartsSaving (IsAnyMachineOf g.P.Program.meaning) c.in-Ok-attempt_from.next.machines.items c.args.placed.now.places.now.run.engine s c.args.trace.now.now.next c.args.trace.now.now.left st base before)
+    (sym (viewed c.args.placed.now.places.now.run.window c.in-Ok-attempt_from.next.store c.in-Ok-store_behind.store (made.store ∙ c.store_where.ensures)))
+    (made.start view store.vertices store.edges store.newest)
+
+pub returns-clause-newest : goal.returns-clause-newest
+returns-clause-newest g c =
+    where_taken (λ (s : Store). s.newest + 1 < 2 ^ 32) c.args.placed.now.places.now.run.window c.in-Ok-attempt_from.next.store c.in-Ok-store_behind.store (c.in-Ok-attempt_from.ensures.store ∙ c.store_where.ensures)
+    (subst (λ (n : ℕ). n + 1 < 2 ^ 32) (sym c.in-Ok-store_behind.ensures.newest) c.in-Ok.ensures.number)
+
+pub returns-clause-short : goal.returns-clause-short
+returns-clause-short g c =
+    where_taken (λ (s : Store). s.length < 2 ^ 32) c.args.placed.now.places.now.run.window c.in-Ok-attempt_from.next.store c.in-Ok-store_behind.store (c.in-Ok-attempt_from.ensures.store ∙ c.store_where.ensures)
+    c.in-Ok-store_behind.ensures.short
 
 pub returns-clause-back : goal.returns-clause-back
 returns-clause-back g c = λ told start order st o runs known has.
@@ -40,10 +58,15 @@ returns-clause-back g c = λ told start order st o runs known has.
     let behind : IsBaseBehind shared header bodies missing c.in-Ok.base =
     subst (λ (es : List Entry). IsBaseBehind shared header bodies es c.in-Ok.base) c.deref-3.ensures.value (c.in-Ok.ensures.base told shared runs.placed.graph runs.program_is known.was.keeps.good) in
     let next = c.in-Ok-attempt_from.next in
-    let lost = c.in-Ok-attempt_from.ensures.lost in
-    subst (λ (es : List Entry). RestartsFrom meaning c.args.trace.now next.machines.items c.args.placed.now.places.now.run.engine (Some (store_view next.store)) es c.args.lost.now next.lost.items c.args.restarts.now.front.items next.front.items st o known.was.events known.was.cluster) (sym c.in-Ok-attempt_from.ensures.order)
-    (goes_so meaning c.args.placed.now.graph.now (meaning c.args.placed.now.program) c.args.placed.now.places.now c.args.trace.now header start bodies c.args.lost.now c.args.restarts.now.stored.items c.args.restarts.now.front.items order st o runs known has failures c.next.result
+    let made = c.in-Ok-attempt_from.ensures in
+    let room = c.in-Ok-store_behind.ensures in
+    let places = c.args.placed.now.places.now in
+    let view = store_view c.in-Ok-store_behind.store in
+    let lost = made.lost in
+    subst (λ (es : List Entry). RestartsFrom meaning c.args.trace.now next.machines.items places.run.engine (option_map store_view next.store) es c.args.lost.now next.lost.items c.args.restarts.now.front.items next.front.items st o known.was.events known.was.cluster) (sym made.order)
+    (subst (λ (s : Option StoreView). RestartsFrom meaning c.args.trace.now next.machines.items places.run.engine s c.in-Ok.base.order.items c.args.lost.now next.lost.items c.args.restarts.now.front.items next.front.items st o known.was.events known.was.cluster)
+    (sym (viewed places.run.window next.store c.in-Ok-store_behind.store (made.store ∙ c.store_where.ensures)))
+    (goes_so meaning c.args.placed.now.graph.now (meaning c.args.placed.now.program) places c.args.trace.now header start bodies c.args.lost.now c.args.restarts.now.stored.items c.args.restarts.now.front.items order st o runs known has failures c.next.result
     (c.in_ok-failures.ensures st o known.was.events known.was.cluster known.was.now) (c.next.ensures st o known.was.events known.was.cluster known.was.now) missing c.in_ok-missing.ensures.alone lacks c.in-Ok.base behind next.machines.items
-    (λ to. c.in-Ok-attempt_from.ensures.stand st o known.was.events known.was.cluster known.was.now to) (store_view next.store) (ap (λ s. s.vertices) c.in-Ok-attempt_from.ensures.store ∙ c.in-Ok-store_behind.ensures.vertices)
-    (ap (λ s. s.edges) c.in-Ok-attempt_from.ensures.store ∙ c.in-Ok-store_behind.ensures.edges) (ap (λ s. s.newest) c.in-Ok-attempt_from.ensures.store ∙ c.in-Ok-store_behind.ensures.newest) (ap (λ s. s.length) c.in-Ok-attempt_from.ensures.store ∙ c.in-Ok-store_behind.ensures.place)
-    next.front.items next.lost.items lost.0 c.in-Ok-attempt_from.ensures.front lost.1 (λ to. lost.2 st o known.was.events known.was.cluster known.was.now to))
+    (λ to. made.stand st o known.was.events known.was.cluster known.was.now to) view room.vertices room.edges room.newest room.place
+    next.front.items next.lost.items lost.0 made.front lost.1 (λ to. lost.2 st o known.was.events known.was.cluster known.was.now to)))

@@ -1,5 +1,5 @@
 -- All go back.
-use Rattle.std.proofs.Common.{Some}
+use Rattle.std.specs.Prelude.{option_map}
 use Rattle.coordinator.specs.coord_core.Stores.{store_view}
 use Rattle.engine_runs.proofs.rollback.Keepings.{known_back, known_failed, lost_read}
 use Rattle.engine_runs.specs.rollback.Returning.{IsAnyMachineOf}
@@ -21,6 +21,6 @@ returns-clause-back g c = λ runs header order st o of run known some.
     let fails = c.in_ok-fail_reached.ensures.failed st o known.was.events known.was.cluster known.was.now in
     let after = known_failed (IsAnyMachineOf meaning) old mid failures header _ _ lost stored front order st o known runs some fails in
     let next = lost_read meaning mid header _ _ c.deref.result.now lost c.in_ok-next.next.lost.items stored front c.in_ok-next.next.front.items order c.in_ok-next.next.order.items st o c.in_ok-next.next.machines.items c.args.placed.now.places.now.run.engine
-    (Some (store_view c.in_ok-next.next.store)) c.deref.ensures.value (c.in_ok-next.ensures.back header order st o of run) after.0 after.1 in
+    (option_map store_view c.in_ok-next.next.store) c.deref.ensures.value (c.in_ok-next.ensures.back header order st o of run) after.0 after.1 in
     known_back meaning mid new c.in_default.ensures.same.1 header _ _ lost c.in_ok-next.next.lost.items stored front c.in_ok-next.next.front.items order c.in_ok-next.next.order.items st o
-    c.in_ok-next.next.machines.items c.args.placed.now.places.now.run.engine (Some (store_view c.in_ok-next.next.store)) after.0 next c.in_default.ensures.recovered
+    c.in_ok-next.next.machines.items c.args.placed.now.places.now.run.engine (option_map store_view c.in_ok-next.next.store) after.0 next c.in_default.ensures.recovered

@@ -1,8 +1,7 @@
 -- The call goes on from the start.
-use Rattle.std.proofs.Common.{◌<◌, ◌≤◌, ◌∙◌, ℕ, List, ap, length, subst, subst₂, sym}
+use Rattle.std.proofs.Common.{◌∙◌, ℕ, List, ap, length, subst, subst₂, sym}
 use Rattle.engine_runs.proofs.unstored.Goings.{has_begun}
 use Rattle.engine_runs.specs.unstored.Inner.Going.{ArePlacesOf, AreRestartsAlone, IsRunAt}
-use Rattle.gl_base.specs.declared.jobs.FailureAt.{FailureAt}
 use Rattle.placed_machines.specs.declared.placing.Places.{Places}
 use Rattle.engine_runs.proofs.unstored.running.begin.Goals as goal
 
@@ -13,8 +12,8 @@ returns-clause-can g c =
     let many = ap (λ x. length x.now.machines.items) of.trace ∙ made.machines in
     record {
       places = subst₂ (λ (n : ℕ) (p : Places). ArePlacesOf c.args.graph.now n p) (sym many) (sym of.places) made.places.are;
-      machines = subst (λ (n : ℕ). n < 65535) (sym many) c.requires.few;
-      failures = subst (λ (fs : List FailureAt). length fs ≤ 65536) (sym (ap (λ x. x.failures) of.trace ∙ made.failures)) c.requires.places;
+      graph = made.graph;
+      window = ap (λ (p : Places). p.run.window) of.places ∙ made.places.window ∙ c.requires.window;
       running = ap (λ x. x.now.stopped) of.trace ∙ made.runs;
       stored = ap (λ r. r.stored.items) of.restarts ∙ made.stored;
       snapshots = of.snapshots;

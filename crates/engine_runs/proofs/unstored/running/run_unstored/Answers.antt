@@ -9,16 +9,14 @@ returns-in-Ok-gathered-clause-run g c = λ owner placement.
     let made = c.in_ok-call.ensures in
     run_owned g.P.Program.meaning c.args.input.now.graph.now (g.P.Program.meaning c.args.program) c.args.input.now.cut.now _ c.args.input.now.failures.now c.in_ok-call.call c.play_unstored.new.call c.in-Ok.end made.graph made.places
     (placed_once c.args.input.now.graph.now c.args.input.now.cut.now c.args.input.now.plan.machines c.requires.plan.machines) made.begun made.failures c.in-Ok.ensures.on c.in-Ok.ensures.ends
-    owner placement c.in-Ok-gathered.run' c.in-Ok-gathered.ensures.run c.in-Ok-gathered.ensures.trace c.in-Ok-gathered.ensures.end
+    owner placement c.in-Ok-gathered.run' c.in-Ok-gathered.ensures.alone c.in-Ok-gathered.ensures.trace
 
 pub returns-in-Ok-gathered-clause-engine : goal.returns-in-Ok-gathered-clause-engine
 returns-in-Ok-gathered-clause-engine g c =
-    let made = c.in_ok-call.ensures in (
-      _,
-      run_by g.P.Program.meaning c.args.input.now.graph.now (g.P.Program.meaning c.args.program) c.args.input.now.cut.now _ c.args.input.now.failures.now c.in_ok-call.call c.play_unstored.new.call c.in-Ok.end made.graph made.places
-          (placed_once c.args.input.now.graph.now c.args.input.now.cut.now c.args.input.now.plan.machines c.requires.plan.machines) made.begun made.failures c.in-Ok.ensures.on c.in-Ok.ensures.ends
-          _ made.places.placement _ c.in-Ok-gathered.ensures.trace,
-    )
+    let made = c.in_ok-call.ensures in
+    run_by g.P.Program.meaning c.args.input.now.graph.now (g.P.Program.meaning c.args.program) c.args.input.now.cut.now _ c.args.input.now.failures.now c.in_ok-call.call c.play_unstored.new.call c.in-Ok.end made.graph made.places
+    (placed_once c.args.input.now.graph.now c.args.input.now.cut.now c.args.input.now.plan.machines c.requires.plan.machines) made.begun made.failures c.in-Ok.ensures.on c.in-Ok.ensures.ends
+    _ made.places.placement _ c.in-Ok-gathered.ensures.trace
 
 pub returns-in-Ok-gathered-clause-enough : goal.returns-in-Ok-gathered-clause-enough
 returns-in-Ok-gathered-clause-enough g c = λ bound steps enough left spent.
