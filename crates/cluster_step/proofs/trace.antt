@@ -3,3 +3,4 @@ pub mod LaterLemmas
 pub mod AtOnceGoing
 pub mod Calling
 pub mod Passing
+pub mod Settled

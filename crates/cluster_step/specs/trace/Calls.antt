@@ -7,10 +7,11 @@ use Rattle.call_laws.specs.attempts.EngineCalls.{EngineCall, call_order, lost_of
 use Rattle.call_laws.specs.attempts.Stores.{last_order, snapshots_of}
 use Rattle.cluster_laws.specs.cluster_model.Events as law
 use Rattle.cluster_laws.specs.cluster_model.Working.{half_window}
-use Rattle.cluster_step.specs.trace.Traces.{CallOpening, Cluster, TraceView, InEachTrace, Machine, Setting, first_cluster, first_setting}
+use Rattle.cluster_step.specs.trace.Traces.{CallOpening, Cluster, TraceView, InEachTrace, Machine, Setting, first_cluster, first_setting, newest_setting}
 use Rattle.graph_core.specs.DataGraph.{size}
 use Rattle.cluster_laws.specs.merged_logs.Merges.{IsByMachineBelow}
 use Rattle.seq_run.specs.Orders.{tasks_after}
+use Rattle.whole_laws.specs.cluster_ending.Ends.{HasEnded}
 use Rattle.whole_laws.specs.cluster_records.Few.{under_way}
 use Rattle.call_laws.specs.whole_calls.Called.{IsCallOf, KeepsWindows}
 use Rattle.call_laws.specs.whole_calls.Lost.{AreLostIn}
@@ -51,6 +52,10 @@ pub record HasEndedCall (st : Setting) (call : EngineCall) : Type 0 where
   pub unharmed : call.last.struck ≡ 0
   pub some : st.stored ≡ true → 1 ≤ length (snapshots_of call)
   pub saved : st.stored ≡ true → last_order call.base (snapshots_of call) ≡ call_order call
+
+-- where no snapshots are taken the cluster has ended in each course: no scope is in flight, nobody waits for a lock, and no message is between machines
+abbrev pub EndsWhereUnsaved : {M : Type 0} → (Setting → ℕ → Machine → M → Type 0) → TraceView M → Type 0
+EndsWhereUnsaved represents v = InEachTrace represents v (λ st o events c. st.stored ≡ false → HasEnded (newest_setting st o events) c)
 
 -- a task is left after the call's order
 abbrev pub HasTaskLeft : Setting → EngineCall → Type 0

@@ -1,7 +1,8 @@
 //! An attempt of a call without a store is driven until it pauses.
-ghost use Rattle.std.specs.Prelude.{IfOk, IfSome};
+ghost use Rattle.std.specs.Prelude.{◌≡◌, IfOk, IfSome};
 ghost use Rattle.cluster_step.specs.drive.Pauses.{IsSameAttempt, NoneReached, TraceGoesOn, as_since};
 ghost use Rattle.cluster_step.specs.drive.Unsaved.{PausesUnsaved};
+ghost use Rattle.cluster_step.specs.trace.Calls.{EndsWhereUnsaved};
 
 use crate::drive::pauses::{first_reached, is_spent};
 use crate::drive::turns::round;
@@ -21,6 +22,8 @@ pub enum UnsavedPause {
 }
 
 /// Makes rounds until the attempt pauses, and says why: it pauses as soon as nothing is left to do.
+/// Then, where no snapshots are taken, no message is on its way between machines, no scope is in
+/// flight, and nobody waits for a lock.
 /// For want of memory the trace stays where it is. No snapshot is acknowledged, and no attempt
 /// begins: each course has gone on from where the trace was remembered.
 pub fn drive_unsaved<R: Wait, M: SavingMachine>(
@@ -30,6 +33,8 @@ pub fn drive_unsaved<R: Wait, M: SavingMachine>(
     ensures same { IsSameAttempt trace.old trace.new }
     ensures since { TraceGoesOn M.represents (as_since trace.new) trace.new }
     ensures pause { IfOk result (PausesUnsaved M.represents trace.new) }
+    ensures settled { IfOk result (λ pause. pause ≡ UnsavedPause.Quiet →
+        EndsWhereUnsaved M.represents trace.new) }
 {
     for _ in rt.forever() {
         if let Some(pause) = unsaved_pause(trace) {
@@ -43,6 +48,8 @@ pub fn drive_unsaved<R: Wait, M: SavingMachine>(
 /// The pause, where the trace is at one.
 fn unsaved_pause<M: SavingMachine>(trace: &Trace<M>) -> Option<UnsavedPause>
     ensures pause { IfSome result (PausesUnsaved M.represents trace.now) }
+    ensures settled { IfSome result (λ pause. pause ≡ UnsavedPause.Quiet →
+        EndsWhereUnsaved M.represents trace.now) }
     ensures since { TraceGoesOn M.represents (as_since trace.now) trace.now }
 {
     match first_reached(trace) {
@@ -54,7 +61,9 @@ fn unsaved_pause<M: SavingMachine>(trace: &Trace<M>) -> Option<UnsavedPause>
 /// The pause, where no machine has reached the count of a failure.
 fn unsaved_end<M: SavingMachine>(trace: &Trace<M>) -> Option<UnsavedPause>
     requires { NoneReached M.represents trace.now }
-    ensures { IfSome result (PausesUnsaved M.represents trace.now) }
+    ensures pause { IfSome result (PausesUnsaved M.represents trace.now) }
+    ensures settled { IfSome result (λ pause. pause ≡ UnsavedPause.Quiet →
+        EndsWhereUnsaved M.represents trace.now) }
 {
     if trace.leaves_nothing() {
         Some(UnsavedPause::Quiet)

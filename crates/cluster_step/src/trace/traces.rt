@@ -2,7 +2,7 @@
 ghost use Rattle.std.specs.Prelude.{[], ◌≡◌, ◌+◌, ◌^◌, ◌<◌, ◌≤◌, ◌↔◌, ℕ, length, option_map, slice_index_or, false, true, IfNone, IfOk, IfSome, IsErrOf, IsTrue, OnErr, OnOk};
 ghost use Rattle.call_laws.specs.attempts.EngineCalls.{done_of, first_ticket, made_of};
 ghost use Rattle.cluster_step.specs.trace.AtOnce.{CanHappenAtOnceInCall, IsLocalUpdateDisabled, HappensAtOnceInCall};
-ghost use Rattle.cluster_step.specs.trace.Calls.{HasCall, HasEndedCall, HasTaskLeft, LeavesNothing, OfTheCall};
+ghost use Rattle.cluster_step.specs.trace.Calls.{EndsWhereUnsaved, HasCall, HasEndedCall, HasTaskLeft, LeavesNothing, OfTheCall};
 ghost use Rattle.cluster_step.specs.trace.Traces.{BaseView, CallOpening, Cluster, TraceGoesOn, HasTrace, HasGoneBack, InEachTrace, IsTraceNow, IsSameAttempt, OpensCall, Setting, StartsSaving, as_since, first_cluster, newest_setting};
 ghost use Rattle.cluster_step.specs.trace.Events.{CanHappenInCall, IsEventDisabled, HappensInCall, IsHeldBack, GoesOnBy, StaysThere};
 ghost use Rattle.cluster_laws.specs.cluster_core.Replays.{entries_of};
@@ -263,20 +263,25 @@ impl<M: SavingMachine> Trace<M> {
 
     /// What is due: a record, the next snapshot, the end, a step, or a wave. Where it is the end
     /// the call has ended; and the snapshot of a record that is due may follow those of the call.
+    /// Where no snapshots are taken nothing is left at the end: no task, no scope in flight, nobody
+    /// who waits for a lock, and no message between machines.
     pub fn due(&self) -> Due
         ensures due { IsDueOf self.now.now.coordinator result }
         ensures ended { result ≡ Due.Ended →
             OfTheCall M.represents self.now (λ st o c call. HasEndedCall st call) }
+        ensures settled { result ≡ Due.Ended → EndsWhereUnsaved M.represents self.now }
         ensures pending { (k : ℕ) → result ≡ Due.Record k →
             OfTheCall M.represents self.now (λ st o c call. MayFollow st c.coordinator call) }
     {
         self.cluster.due()
     }
 
-    /// Whether the waves have shown that nothing is left to do: then the call leaves nothing.
+    /// Whether the waves have shown that nothing is left to do: then the call leaves nothing. Where
+    /// no snapshots are taken nothing is on its way either.
     pub fn leaves_nothing(&self) -> bool
-        ensures { IsTrue result →
+        ensures nothing { IsTrue result →
             OfTheCall M.represents self.now (λ st o c call. LeavesNothing st call) }
+        ensures settled { IsTrue result → EndsWhereUnsaved M.represents self.now }
     {
         self.cluster.has_seen_the_end()
     }

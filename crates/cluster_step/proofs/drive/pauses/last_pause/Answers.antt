@@ -1,4 +1,4 @@
--- The store is full; or no ticket is left, and a task is.
+-- The store is full; no ticket is left, and a task is; or nothing is left to do.
 use Rattle.cluster_step.proofs.drive.pauses.last_pause.Goals as goal
 
 pub returns-then-is_full-clause-pause : goal.returns-then-is_full-clause-pause
@@ -6,3 +6,6 @@ returns-then-is_full-clause-pause g c = (c.requires, c.is_full.ensures c.if-is_f
 
 pub returns-then-is_spent-clause-pause : goal.returns-then-is_spent-clause-pause
 returns-then-is_spent-clause-pause g c = (c.requires, c.is_spent.ensures.spent c.if-is_spent.true, c.is_spent.ensures.task c.if-is_spent.true)
+
+pub returns-then-leaves_nothing-clause-pause : goal.returns-then-leaves_nothing-clause-pause
+returns-then-leaves_nothing-clause-pause g c = (c.requires, c.leaves_nothing.ensures.nothing c.if-leaves_nothing.true)
