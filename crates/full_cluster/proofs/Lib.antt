@@ -13,3 +13,4 @@ pub mod WayRules
 pub mod QueueLemmas
 pub mod MachineLemmas
 pub mod GrantLemmas
+pub mod ArrivingLemmas

@@ -1,6 +1,10 @@
 -- The numbers of a range that pass a test.
-use Rattle.std.proofs.Common.{◌≡◌, ◌≢◌, ℕ, zero, suc, ◌+◌, ◌-◌, ◌<◌, ◌≤◌, Bool, true, false, if◌then◌else◌, List, [], ◌∷◌, ◌++◌, append-nil, refl, sym, ◌∙◌, ap, subst, ⊎_elim, arith}
+use Rattle.std.proofs.Common.{◌≡◌, ◌≢◌, ℕ, zero, suc, ◌+◌, ◌-◌, ◌<◌, ◌≤◌, Bool, true, false, if◌then◌else◌, Some, List, [], ◌∷◌, ◌++◌, append-nil, length, map, slice_get, slice_index_or, refl, sym, ◌∙◌, ap, subst, ⊎_elim, arith}
+use Rattle.std.specs.List.{All}
+use Rattle.std.specs.Option.{option_map}
 use Rattle.std.proofs.lemmas.Bool.{cases_Bool, cases_eq}
+use Rattle.std.proofs.lemmas.Option.{get_or_from_slice_get, slice_get-get_or, slice_get-map, slice_get_within}
+use Rattle.gl_base.specs.declared.numbers.Vertex.{Vertex}
 use Rattle.full_cluster.specs.Inner.Ways.{passing}
 
 pub passing-head : (test : ℕ → Bool) (k many u : ℕ) (rest : List ℕ) → passing test k many ≡ u ∷ rest → (k ≤ u) × (u < k + many) × (test u ≡ true) × ((c : ℕ) → k ≤ c → c < u → test c ≡ false) × (rest ≡ passing test (u + 1) (k + many - (u + 1)))
@@ -86,3 +90,38 @@ passing_one test v k many none low high =
     ∙ passing-append test v 1 after
     ∙ ap (λ (xs : List ℕ). (if test v then v ∷ [] else []) ++ xs) last
     ∙ append-nil (if test v then v ∷ [] else [])
+
+passing-within : (test : ℕ → Bool) (k many i u : ℕ) → slice_get (passing test k many) i ≡ Some u → u < k + many
+passing-within test k zero zero u at = cc
+passing-within test k zero (suc i) u at = cc
+passing-within test k (suc many) zero u at = ⊎_elim
+    (λ (yes : test k ≡ true). let one : Some k ≡ Some u = rw yes at at in let is : k ≡ u = cc in omega (arith, is))
+    (λ (passed : test k ≡ false).
+    let later : slice_get (passing test (k + 1) many) zero ≡ Some u = rw passed at at in
+    let below = passing-within test (k + 1) many zero u later in
+    omega (arith, below))
+    (cases_Bool (test k))
+passing-within test k (suc many) (suc i) u at = ⊎_elim
+    (λ (yes : test k ≡ true).
+    let later : slice_get (passing test (k + 1) many) i ≡ Some u = rw yes at at in
+    let below = passing-within test (k + 1) many i u later in
+    omega (arith, below))
+    (λ (passed : test k ≡ false).
+    let later : slice_get (passing test (k + 1) many) (suc i) ≡ Some u = rw passed at at in
+    let below = passing-within test (k + 1) many (suc i) u later in
+    omega (arith, below))
+    (cases_Bool (test k))
+
+-- what passes is of the range
+pub all_below : (test : ℕ → Bool) (many : ℕ) (part : List Vertex) → map (λ x. x.0) part ≡ passing test 0 many → All (λ x. x.0 < many) part
+all_below test many part is = λ i d inside.
+    let at : slice_get (passing test 0 many) i ≡ Some (slice_index_or part i d).0 =
+    ap (λ (xs : List ℕ). slice_get xs i) (sym is)
+    ∙ slice_get-map (λ (x : Vertex). x.0) part i
+    ∙ ap (option_map (λ (x : Vertex). x.0)) (slice_get-get_or part i d inside) in
+    let below = passing-within test 0 many i (slice_index_or part i d).0 at in
+    omega (arith, below)
+
+-- the first of them is so
+pub first_below : (part : List Vertex) (many : ℕ) (y : Vertex) → All (λ x. x.0 < many) part → slice_get part 0 ≡ Some y → y.0 < many
+first_below part many y all at = subst (λ (x : Vertex). x.0 < many) (get_or_from_slice_get part 0 y y at) (all 0 y (slice_get_within part 0 y at))

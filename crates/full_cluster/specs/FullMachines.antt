@@ -7,15 +7,22 @@ use Rattle.std.specs.Prelude.{◌≡◌, ℕ, ◌+◌, ◌<◌, true, Option, No
 use Rattle.gl_base.specs.declared.numbers.MachineNo.{MachineNo}
 use Rattle.gl_base.specs.declared.numbers.Vertex.{Vertex}
 use Rattle.gl_base.specs.declared.scopes.ScopeId.{ScopeId}
-use Rattle.gl_base.specs.scope_lists.Scopes.{set_for}
-use Rattle.graph_core.specs.DataGraph.{size}
+use Rattle.gl_base.specs.scope_lists.Scopes.{set_at, set_for}
+use Rattle.graph_core.specs.DataGraph.{DataGraph, size}
 use Rattle.cluster_laws.specs.cluster_core.Scopes.{own_from}
 use Rattle.cluster_laws.specs.cluster_core.Settings.{Setting}
+use Rattle.full_laws.specs.FullActions.{HasFirstFull}
+use Rattle.full_laws.specs.FullEffects.{received_full}
+use Rattle.full_laws.specs.FullMessages as model
 use Rattle.full_laws.specs.FullParts.{FullPart, FullStand}
+use Rattle.full_laws.specs.Items.{AVertex}
 use Rattle.full_cluster.specs.declared.machines.FullMachine.{FullMachine}
 use Rattle.full_cluster.specs.declared.machines.ScopeStand.{ScopeStand}
+use Rattle.full_cluster.specs.declared.messages.FullMessage.{FullMessage}
+use Rattle.full_cluster.specs.declared.messages.FullMessage.TheVariants as told
+use Rattle.full_cluster.specs.declared.queues.FullQueue.{FullQueue}
 use Rattle.full_cluster.specs.FullQueues.{AreQueuesOf, HasRoomFor, seen_in}
-use Rattle.full_cluster.specs.Given.{HasNumbers}
+use Rattle.full_cluster.specs.Given.{HasNumbers, IsWithin}
 use Rattle.full_cluster.specs.Orders.{IsLockOrder}
 use Rattle.full_cluster.specs.ScopeMaps.{AreOnce, value_of}
 use Rattle.full_cluster.specs.WholeLocks.{AreLocksOf, HasRoomAt, IsNextOf, has_vertex}
@@ -76,11 +83,59 @@ pub record AsksNextFrom (st : Setting) (a : ℕ) (stand : ScopeStand) (k : ℕ) 
 abbrev pub stood_up : ScopeId → FullPart → FullPart
 stood_up s part = record part { stand = set_for part.stand s None }
 
--- the lock and the machines to which the scope may go on are there
-pub record IsWithinReach (m : FullMachine) (s : ScopeId) (stand : ScopeStand) : Type 0 where
-  pub lock : (y : Vertex) → slice_get stand.part.items stand.place ≡ Some y → y.0 < length m.locks.locks.items
-  pub next : (b : MachineNo) → slice_get stand.rest.items 0 ≡ Some b → b.0 < length m.out.queues.items
+-- the lists and locks of the machine are as long as this graph wants
+pub record IsSizedFor (m : FullMachine) (g : DataGraph) : Type 0 where
+  pub numbers : length m.kept.numbers.items ≡ size g
+  pub edges : length m.kept.edges.items ≡ length g.edges
+  pub tasks : length m.kept.tasks.items ≡ size g
+  pub locks : length m.locks.locks.items ≡ size g
+
+-- it is the machine that it was, with queues for as many machines
+pub record IsSameMachine (old new : FullMachine) : Type 0 where
+  pub me : new.me ≡ old.me
+  pub machines : length new.out.queues.items ≡ length old.out.queues.items
+
+-- the centre of a scope that comes and the machines to which it may go on are there, and it doesn't stand here yet
+pub record CanComeIn (m : FullMachine) (s : ScopeId) (v : Vertex) (rest : List MachineNo) : Type 0 where
+  pub centre : v.0 < length m.kept.numbers.items
+  pub next : (b : MachineNo) → slice_get rest 0 ≡ Some b → b.0 < length m.out.queues.items
   pub home : s.home.0 < length m.out.queues.items
+  pub none : value_of m.stands.entries.items s ≡ None
+
+-- what the message names is there
+abbrev pub IsReceivable : FullMachine → FullMessage → Type 0
+IsReceivable m (told.Gather s v rest seen) = CanComeIn m s v rest.items
+IsReceivable m (told.Home s seen) = ⊤
+IsReceivable m (told.Give s gift) = IsWithin (length m.kept.numbers.items) (length m.kept.edges.items) gift
+
+-- a scope stands nowhere here, and can go on from there without memory
+pub record CanStandThere (m : FullMachine) (s : ScopeId) (stand : ScopeStand) : Type 0 where
+  pub none : value_of m.stands.entries.items s ≡ None
+  pub room : HasRoomToGoOn m s stand
+
+-- the message can be received without memory, where a scope that comes with it takes these locks
+abbrev pub IsPreparedFor : FullMachine → FullMessage → Vec Vertex → Type 0
+IsPreparedFor m (told.Gather s v rest seen) part = CanStandThere m s (record { centre = v; part = part; place = 0; rest = rest; seen = seen })
+IsPreparedFor m (told.Home s seen) part = vec_len m.ready.entries < vec_capacity m.ready.entries
+IsPreparedFor m (told.Give s gift) part = IsWithin (length m.kept.numbers.items) (length m.kept.edges.items) gift
+
+-- a scope that comes with the message to machine a takes these locks there in this order
+abbrev pub IsOrderedFor : Setting → ℕ → FullMessage → List Vertex → Type 0
+IsOrderedFor st a (told.Gather s v rest seen) part = IsLockOrder st v.0 a (map (λ x. x.0) part)
+IsOrderedFor st a (told.Home s seen) part = ⊤
+IsOrderedFor st a (told.Give s gift) part = ⊤
+
+-- a scope whose update was made holds no lock of the machine but those of vertices that it gives
+abbrev pub GivesWhatItHolds : Setting → FullPart → model.FullMessage → Type 0
+GivesWhatItHolds st part (model.Gather s v rest seen) = ⊤
+GivesWhatItHolds st part (model.Home s seen) = ⊤
+GivesWhatItHolds st part (model.Give s gift) = (x : ℕ) → x < size st.graph → part.holds x s ≡ true → (n : ℕ) × (gift.numbers (AVertex x) ≡ Some n)
+
+-- the first message on the link is received
+pub record HasDelivered (st : Setting) (new : FullMachine) (link_new : List FullQueue) (link : ℕ → List model.FullMessage) (a : ℕ) (part : FullPart) : Type 0 where
+  pub first : HasFirstFull (link a)
+  pub links : AreQueuesOf st link_new (set_at link a first.behind)
+  pub machine : IsMachineOf st new (received_full st a first.message part)
 
 -- a scope stands before a lock of its list here, and the machines and locks to which it may go on then are there
 pub record IsWithinAfter (m : FullMachine) (s : ScopeId) (stand : ScopeStand) : Type 0 where

@@ -1,5 +1,5 @@
 -- What machines tell one another, as lists.
-use Rattle.std.specs.Prelude.{◌≡◌, ◌<◌, ◌≤◌, ◌==◌, ℕ, Option, None, Some, List, [], ◌∷◌, ◌++◌, if◌then◌else◌, length, map, slice_index_or}
+use Rattle.std.specs.Prelude.{◌≡◌, ◌<◌, ◌≤◌, ◌==◌, ℕ, Option, None, Some, List, [], ◌∷◌, ◌++◌, if◌then◌else◌, length, map, slice_get, slice_index_or}
 use Rattle.std.specs.VecDeque.{deque_capacity}
 use Rattle.gl_base.specs.declared.numbers.Vertex.{Vertex}
 use Rattle.gl_base.specs.scope_lists.Scopes.{set_at}
@@ -45,6 +45,11 @@ HasRoomToPut queue = length queue.messages.items < deque_capacity queue.messages
 -- the same of queue q
 abbrev pub HasRoomFor : List FullQueue → ℕ → Type 0
 HasRoomFor queues q = (d : FullQueue) → HasRoomToPut (slice_index_or queues q d)
+
+-- the message is the first of queue q
+pub record IsFirstIn (queues : List FullQueue) (q : ℕ) (message : FullMessage) : Type 0 where
+  pub inside : q < length queues
+  pub first : (d : FullQueue) → slice_get (slice_index_or queues q d).messages.items 0 ≡ Some message
 
 -- the message was the first of queue q
 pub record HasTakenFirst (st : Setting) (new : List FullQueue) (out : ℕ → List model.FullMessage) (q : ℕ) (message : FullMessage) : Type 0 where

@@ -7,7 +7,7 @@ ghost use Rattle.full_laws.specs.FullActions.{MayGrantFull};
 ghost use Rattle.full_laws.specs.FullEffects.{gathers, granted_full, locks_full, passes_full};
 ghost use Rattle.full_laws.specs.FullParts.{FullPart, FullStand};
 ghost use Rattle.full_laws.specs.Items.{AVertex};
-ghost use Rattle.full_cluster.specs.FullMachines.{stood_up, AreStandsWithin, AskForIt, IsMachineOf, IsStandOf, IsWithinAfter};
+ghost use Rattle.full_cluster.specs.FullMachines.{stood_up, AreStandsWithin, AskForIt, IsMachineOf, IsStandOf, IsSameMachine, IsWithinAfter};
 ghost use Rattle.full_cluster.specs.Given.{IsDividedAs};
 ghost use Rattle.full_cluster.specs.ScopeMaps.{value_of, AreOnce};
 ghost use Rattle.full_cluster.specs.WholeLocks.{IsNextOf};
@@ -17,14 +17,16 @@ use gl_base::{Refused, ScopeId, Vertex};
 
 impl FullMachine {
     /// The first scope that waits for the lock of x holds it, if nobody held it. It gathers the
-    /// number of x, and waits for its next lock or leaves. `NotNow` comes exactly where the machine
-    /// doesn't own x, nobody waits or somebody holds; after an error all is as it was.
+    /// number of x, and waits for its next lock or leaves. Where whoever waits first for the lock
+    /// stands before it, `NotNow` comes exactly where the machine doesn't own x, nobody waits or
+    /// somebody holds. After an error all is as it was.
     pub fn grant(&mut self, division: &Division<'_>, x: Vertex) -> Result<(), Refused>
         requires locks { length self.old.locks.locks.items ≡ size division.now.graph.now }
         requires numbers { length self.old.kept.numbers.items ≡ size division.now.graph.now }
         requires within { AreStandsWithin self.old }
         requires once { AreOnce self.old.stands.entries.items }
         requires ready_once { AreOnce self.old.ready.entries.items }
+        ensures still { IsSameMachine self.old self.new }
         ensures granted { (st : Setting) (part : FullPart) → IsDividedAs st division.now →
             IsMachineOf st self.old part → AskForIt part x.0 →
             OnOk result (MayGrantFull st self.old.me.0 x.0 part ×
@@ -60,6 +62,7 @@ impl FullMachine {
         requires once { AreOnce self.old.stands.entries.items }
         requires none { value_of self.old.stands.entries.items scope ≡ None }
         requires ready_once { AreOnce self.old.ready.entries.items }
+        ensures still { IsSameMachine self.old self.new }
         ensures granted { (st : Setting) (part : FullPart) (standing : FullStand)
             (next : IsNextOf (part.holds x.0) (part.queue x.0) scope) → x.0 < size st.graph →
             st.owner x.0 ≡ self.old.me.0 → IsMachineOf st self.old (stood_up scope part) →
@@ -95,6 +98,7 @@ impl FullMachine {
         requires once { AreOnce self.old.stands.entries.items }
         requires none { value_of self.old.stands.entries.items scope ≡ None }
         ensures refused { result ≡ Err Refused.NoMemory }
+        ensures still { IsSameMachine self.old self.new }
         ensures again { (st : Setting) (part : FullPart) (standing : FullStand) →
             IsMachineOf st self.old (stood_up scope part) → part.stand scope ≡ Some standing →
             IsStandOf st self.old.me.0 stand standing → IsMachineOf st self.new part }

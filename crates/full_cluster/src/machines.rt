@@ -6,7 +6,7 @@ ghost use Rattle.full_laws.specs.FullEffects.{leaves_full, passes_full, received
 ghost use Rattle.full_laws.specs.FullMessages.{Gift, Give, Home};
 ghost use Rattle.full_laws.specs.FullParts.{FullPart};
 ghost use Rattle.full_cluster.specs.Given.{IsGift};
-ghost use Rattle.full_cluster.specs.FullMachines.{stood_up, AsksNextFrom, HasRoomToGoOn, HasRoomToLeave, HoldsAlong, IsMachineOf};
+ghost use Rattle.full_cluster.specs.FullMachines.{stood_up, AsksNextFrom, HasRoomToGoOn, HasRoomToLeave, HoldsAlong, IsMachineOf, IsSameMachine};
 ghost use Rattle.full_cluster.specs.FullQueues.{seen_in};
 ghost use Rattle.full_cluster.specs.ScopeMaps.{value_of, AreOnce};
 
@@ -72,7 +72,8 @@ impl FullMachine {
     pub fn receive_home(&mut self, scope: ScopeId, seen: Vec<(Vertex, u64)>)
         requires room { vec_len self.old.ready.entries < vec_capacity self.old.ready.entries }
         requires once { AreOnce self.old.ready.entries.items }
-        ensures { (st : Setting) (part : FullPart) → IsMachineOf st self.old part →
+        ensures still { IsSameMachine self.old self.new }
+        ensures received { (st : Setting) (part : FullPart) → IsMachineOf st self.old part →
             IsMachineOf st self.new
             (received_full st self.old.me.0 (Home scope (seen_in seen.items)) part) }
     {
@@ -91,7 +92,8 @@ impl FullMachine {
             u.0 < length self.old.kept.tasks.items) gift.now.wakes.items }
         requires locks { All (λ pair.
             pair.0.0 < length self.old.locks.locks.items) gift.now.numbers.items }
-        ensures { (st : Setting) (part : FullPart) (given : Gift) →
+        ensures still { IsSameMachine self.old self.new }
+        ensures received { (st : Setting) (part : FullPart) (given : Gift) →
             IsMachineOf st self.old part → IsGift st gift.now given →
             HoldsAlong st part scope gift.now.numbers.items →
             IsMachineOf st self.new (received_full st self.old.me.0 (Give scope given) part) }
@@ -105,7 +107,8 @@ impl FullMachine {
     fn go_home(&mut self, scope: ScopeId, seen: Vec<(Vertex, u64)>)
         requires room { HasRoomToLeave self.old scope [] }
         requires once { AreOnce self.old.ready.entries.items }
-        ensures { (st : Setting) (part : FullPart) (v : ℕ) → IsMachineOf st self.old part →
+        ensures still { IsSameMachine self.old self.new }
+        ensures left { (st : Setting) (part : FullPart) (v : ℕ) → IsMachineOf st self.old part →
             IsMachineOf st self.new
             (leaves_full self.old.me.0 scope v [] (seen_in seen.items) part) }
     {
@@ -127,7 +130,8 @@ impl FullMachine {
     )
         requires room { HasRoomToLeave self.old scope rest.items }
         requires once { AreOnce self.old.ready.entries.items }
-        ensures { (st : Setting) (part : FullPart) → IsMachineOf st self.old part →
+        ensures still { IsSameMachine self.old self.new }
+        ensures left { (st : Setting) (part : FullPart) → IsMachineOf st self.old part →
             IsMachineOf st self.new (leaves_full self.old.me.0 scope centre.0
             (map (λ b. b.0) rest.items) (seen_in seen.items) part) }
     {
@@ -152,7 +156,8 @@ impl FullMachine {
         requires once { AreOnce self.old.stands.entries.items }
         requires none { value_of self.old.stands.entries.items scope ≡ None }
         requires ready_once { AreOnce self.old.ready.entries.items }
-        ensures { (st : Setting) (part : FullPart) (k : ℕ) →
+        ensures still { IsSameMachine self.old self.new }
+        ensures went { (st : Setting) (part : FullPart) (k : ℕ) →
             AsksNextFrom st self.old.me.0 stand k →
             IsMachineOf st self.old (stood_up scope part) →
             IsMachineOf st self.new (passes_full st self.old.me.0 scope stand.centre.0 k

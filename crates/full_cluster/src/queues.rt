@@ -1,10 +1,10 @@
 //! Messages on their way.
-ghost use Rattle.std.specs.Prelude.{◌≡◌, ℕ, ◌<◌, ◌++◌, ◌∷◌, [], List, true, false, None, length, OnOk, OnErr, IfOk, IfSome};
+ghost use Rattle.std.specs.Prelude.{◌≡◌, ℕ, ◌<◌, ◌++◌, ◌∷◌, [], List, true, false, None, Some, length, slice_get, OnOk, OnErr, IfOk, IfSome};
 ghost use Rattle.gl_base.specs.scope_lists.Scopes.{set_at};
 ghost use Rattle.cluster_laws.specs.cluster_core.Settings.{Setting};
 ghost use Rattle.full_laws.specs.FullActions.{HasFirstFull};
 ghost use Rattle.full_laws.specs.FullMessages.{FullMessage as ModelMessage};
-ghost use Rattle.full_cluster.specs.FullQueues.{AreQueuesOf, HasRoomFor, HasRoomToPut, HasTakenFirst, IsMessage};
+ghost use Rattle.full_cluster.specs.FullQueues.{AreQueuesOf, HasRoomFor, HasRoomToPut, HasTakenFirst, IsFirstIn, IsMessage};
 
 use crate::FullMessage;
 use gl_base::{MachineNo, NoMemory};
@@ -14,7 +14,7 @@ use std::collections::VecDeque;
 /// Messages for one machine, the first first.
 #[derive(Drop)]
 pub struct FullQueue {
-    messages: VecDeque<FullMessage>,
+    pub messages: VecDeque<FullMessage>,
 }
 
 impl FullQueue {
@@ -33,6 +33,15 @@ impl FullQueue {
         ensures not { result ≡ false → length self.now.messages.items ≡ 0 }
     {
         !self.messages.is_empty()
+    }
+
+    /// The first message, if there is one.
+    pub fn front(&self) -> Option<&FullMessage>
+        ensures some { IfSome result (λ message.
+            slice_get self.now.messages.items 0 ≡ Some message.now) }
+        ensures none { result ≡ None → self.now.messages.items ≡ [] }
+    {
+        self.messages.front()
     }
 
     /// Makes room for one more message. The messages stay, whatever the answer.
@@ -67,7 +76,7 @@ impl FullQueue {
 /// Messages for each machine, by its number.
 #[derive(Drop)]
 pub struct FullQueues {
-    queues: Vec<FullQueue>,
+    pub queues: Vec<FullQueue>,
 }
 
 impl FullQueues {
@@ -98,6 +107,20 @@ impl FullQueues {
             return false;
         }
         self.queues[place].waits()
+    }
+
+    /// The first message for the machine, if there is one.
+    pub fn front(&self, to: MachineNo) -> Option<&FullMessage>
+        ensures some { IfSome result (λ message.
+            IsFirstIn self.now.queues.items to.0 message.now) }
+        ensures none { (st : Setting) (out : ℕ → List ModelMessage) →
+            AreQueuesOf st self.now.queues.items out → result ≡ None → HasFirstFull (out to.0) → ⊥ }
+    {
+        let place = to.0 as usize;
+        if place >= self.queues.len() {
+            return None;
+        }
+        self.queues[place].front()
     }
 
     /// Makes room for one more message for the machine. The messages stay, whatever the answer.
@@ -131,6 +154,7 @@ impl FullQueues {
         ensures some { (st : Setting) (out : ℕ → List ModelMessage) →
             AreQueuesOf st self.old.queues.items out →
             IfSome result (HasTakenFirst st self.new.queues.items out to.0) }
+        ensures first { IfSome result (IsFirstIn self.old.queues.items to.0) }
         ensures none { (st : Setting) (out : ℕ → List ModelMessage) →
             AreQueuesOf st self.old.queues.items out → result ≡ None → out to.0 ≡ [] }
         ensures unchanged { (st : Setting) (out : ℕ → List ModelMessage) →

@@ -24,7 +24,9 @@ impl Division<'_> {
         machine: MachineNo,
     ) -> Result<Vec<Vertex>, NoMemory>
         requires { v.0 < size self.now.graph.now }
-        ensures { (st : Setting) → IsDividedAs st self.now → IfOk result (λ part.
+        ensures within { let g = self.now.graph.now in
+            IfOk result (λ part. All (λ x. x.0 < size g) part.items) }
+        ensures order { (st : Setting) → IsDividedAs st self.now → IfOk result (λ part.
             IsLockOrder st v.0 machine.0 (map (λ x. x.0) part.items)) }
     {
         own_part(alloc, self.graph, self.owner, v, machine)

@@ -11,8 +11,8 @@ use Rattle.full_cluster.specs.ScopeMaps.{value_of}
 use Rattle.full_cluster.proofs.MachineLemmas.{lists_again, stand_put}
 use Rattle.full_cluster.proofs.machines.FullMachine.go_on.Goals as goal
 
-pub returns-in-Some : goal.returns-in-Some
-returns-in-Some c = λ st part k from is.
+pub returns-in-Some-clause-went : goal.returns-in-Some-clause-went
+returns-in-Some-clause-went c = λ st part k from is.
     let m = c.args.self.now in
     let s = c.args.scope in
     let stand = c.args.stand in
@@ -39,11 +39,11 @@ returns-in-Some c = λ st part k from is.
       out = is.out;
     })
 
-pub returns-in-None : goal.returns-in-None
-returns-in-None c = λ st part k from is.
+pub returns-in-None-clause-went : goal.returns-in-None-clause-went
+returns-in-None-clause-went c = λ st part k from is.
     let m = c.args.self.now in
     let s = c.args.scope in
     let stand = c.args.stand in
     let none : slice_get (map (λ (x : Vertex). x.0) stand.part.items) stand.place ≡ None = slice_get-map (λ (x : Vertex). x.0) stand.part.items stand.place ∙ ap (option_map (λ (x : Vertex). x.0)) (sym c.next.ensures ∙ c.in-None.is) in
     subst (λ (o : Option ℕ). IsMachineOf st c.leave.new.self (seeks_full m.me.0 s stand.centre.0 (map (λ (b : MachineNo). b.0) stand.rest.items) (seen_in stand.seen.items) o part)) (sym (from.next ∙ none))
-    (c.leave.ensures st (stood_up s part) is)
+    (c.leave.ensures.left st (stood_up s part) is)

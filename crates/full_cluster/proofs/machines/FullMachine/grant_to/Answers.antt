@@ -19,7 +19,7 @@ returns-then-is_err-2-clause-unchanged c = λ st part standing is at stands.
     record { centre = stands.centre; order = stands.order; lock = stands.lock; rest = stands.rest; seen = stands.seen ∙ ap seen_in (sym c.reserve.ensures.items) } in
     any_err c.stand_again-then-is_err-2.result
     (c.stand_again-then-is_err-2.ensures.again st part standing (c.reserve-2.ensures.same st (stood_up c.args.scope part) is) at
-    (subst (λ (me : MachineNo). IsStandOf st me.0 stand standing) (sym c.reserve-2.ensures.me) again))
+    (subst (λ (me : MachineNo). IsStandOf st me.0 stand standing) (sym c.reserve-2.ensures.still.me) again))
 
 pub go_on-requires-clause-room : goal.go_on-requires-clause-room
 go_on-requires-clause-room c =
@@ -48,7 +48,7 @@ returns-clause-granted c = λ st part standing next low owned is stands lock.
     record { order = stands.order; next = stands.order.next c.args.stand.place x (stands.lock ∙ ap Some lock) ∙ ap (slice_get (map (λ (y : Vertex). y.0) c.args.stand.part.items)) one } in
     let count = whole.numbers.count in
     let inside : x < length room.kept.numbers.items = omega (arith, low, count) in
-    let keep : keeps st room.me.0 (AVertex x) ≡ true = eq-eqb (st.owner x) room.me.0 (owned ∙ ap (λ (me : MachineNo). me.0) (sym c.reserve-2.ensures.me)) in
+    let keep : keeps st room.me.0 (AVertex x) ≡ true = eq-eqb (st.owner x) room.me.0 (owned ∙ ap (λ (me : MachineNo). me.0) (sym c.reserve-2.ensures.still.me)) in
     let number : c.index-number.result.now ≡ part.number (AVertex x) =
     c.index-number.ensures ∙ get_or_default_zero room.kept.numbers.items x c.index-number.result.now inside ∙ whole.numbers.numbers_are (AVertex x) low keep in
     let seen : seen_in c.push_reserved.new.self.items ≡ gathers x (part.number (AVertex x)) standing.seen =
@@ -56,5 +56,5 @@ returns-clause-granted c = λ st part standing next low owned is stands lock.
     ∙ seen_more c.reserve.new.self.items c.args.x c.index-number.result.now
     ∙ ap₂ (λ n f. gathers x n f) number (ap seen_in c.reserve.ensures.items ∙ sym stands.seen) in
     subst (IsMachineOf st c.go_on.new.self)
-    (λ k. passes_full st (c.reserve-2.ensures.me k).0 s (sym stands.centre k) (suc x) (sym stands.rest k) (seen k) after)
-    (c.go_on.ensures st after (suc x) (subst (λ (me : MachineNo). AsksNextFrom st me.0 stand (suc x)) (sym c.reserve-2.ensures.me) asks) held)
+    (λ k. passes_full st (c.reserve-2.ensures.still.me k).0 s (sym stands.centre k) (suc x) (sym stands.rest k) (seen k) after)
+    (c.go_on.ensures.went st after (suc x) (subst (λ (me : MachineNo). AsksNextFrom st me.0 stand (suc x)) (sym c.reserve-2.ensures.still.me) asks) held)

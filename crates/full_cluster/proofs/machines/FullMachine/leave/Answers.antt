@@ -8,12 +8,12 @@ use Rattle.full_cluster.specs.FullQueues.{seen_in}
 use Rattle.full_cluster.proofs.MachineLemmas.{first_there}
 use Rattle.full_cluster.proofs.machines.FullMachine.leave.Goals as goal
 
-pub returns-then-is_empty : goal.returns-then-is_empty
-returns-then-is_empty c = λ st part is.
+pub returns-then-is_empty-clause-left : goal.returns-then-is_empty-clause-left
+returns-then-is_empty-clause-left c = λ st part is.
     let rest = c.args.rest in
     let empty : rest.items ≡ [] = nil_from_length rest.items (sym rest.ok.0 ∙ eqb-true rest.len 0 (sym c.is_empty.ensures ∙ c.if-is_empty.true)) in
     subst (λ (bs : List MachineNo). IsMachineOf st c.go_home.new.self (leaves_full c.args.self.now.me.0 c.args.scope c.args.centre.0 (map (λ (b : MachineNo). b.0) bs) (seen_in c.args.seen.items) part)) (sym empty)
-    (c.go_home.ensures st part c.args.centre.0 is)
+    (c.go_home.ensures.left st part c.args.centre.0 is)
 
 pub put-requires-clause-inside : goal.put-requires-clause-inside
 put-requires-clause-inside c =

@@ -5,8 +5,8 @@ use Rattle.full_cluster.specs.WholeLocks.{has_vertex}
 use Rattle.full_cluster.proofs.MachineLemmas.{all_released}
 use Rattle.full_cluster.proofs.machines.FullMachine.receive_give.Goals as goal
 
-pub returns : goal.returns
-returns c = λ st part given is gift along.
+pub returns-clause-received : goal.returns-clause-received
+returns-clause-received c = λ st part given is gift along.
     let m = c.args.self.now in
     let s = c.args.scope in
     let pairs : List (Vertex × ℕ) = c.deref.result.now in

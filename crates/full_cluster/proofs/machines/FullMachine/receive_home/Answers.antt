@@ -8,8 +8,8 @@ use Rattle.full_cluster.specs.ScopeMaps.{value_of}
 use Rattle.full_cluster.proofs.MachineLemmas.{lists_again, put_over}
 use Rattle.full_cluster.proofs.machines.FullMachine.receive_home.Goals as goal
 
-pub returns : goal.returns
-returns c = λ st part is.
+pub returns-clause-received : goal.returns-clause-received
+returns-clause-received c = λ st part is.
     let m = c.args.self.now in
     record {
       numbers = lists_again st m.me.0 m.kept.numbers.items m.kept.edges.items m.kept.tasks.items part (received_full st m.me.0 (Home c.args.scope (seen_in c.args.seen.items)) part) refl refl is.numbers;
