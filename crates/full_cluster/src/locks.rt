@@ -102,32 +102,3 @@ impl WholeLock {
         }
     }
 }
-
-#[cfg(test)]
-mod tests {
-    use super::*;
-    use gl_base::MachineNo;
-
-    /// The first scope of a machine.
-    fn first_of(machine: u16) -> ScopeId {
-        ScopeId {
-            home: MachineNo(machine),
-            serial: 0,
-        }
-    }
-
-    /// Two scopes wait, and each has the lock in turn.
-    #[test]
-    fn grants_in_turn(rt: HostRuntime) {
-        let mut lock = WholeLock::free(rt.alloc());
-        let (one, other) = (first_of(1), first_of(2));
-        assert!(rt; lock.ask(one).is_ok() && lock.ask(other).is_ok());
-        assert_eq!(rt; lock.grant(), Some(one));
-        assert_eq!(rt; lock.grant(), None);
-        lock.release(other);
-        assert!(rt; lock.holds(one));
-        lock.release(one);
-        assert_eq!(rt; lock.grant(), Some(other));
-        assert!(rt; lock.holds(other) && !lock.holds(one));
-    }
-}

@@ -37,36 +37,3 @@ pub fn send(out: &mut FullQueues, links: &mut FullQueues, to: MachineNo) -> Resu
     }
     Ok(())
 }
-
-#[cfg(test)]
-mod tests {
-    use super::*;
-    use crate::FullMessage;
-    use gl_base::ScopeId;
-
-    /// A message waits for the second of two machines, and is sent once.
-    #[test]
-    fn sends_what_waits(rt: HostRuntime) {
-        let alloc = rt.alloc();
-        let Ok(mut out) = FullQueues::none(alloc, 2) else {
-            panic!(rt; "memory");
-        };
-        let Ok(mut links) = FullQueues::none(alloc, 2) else {
-            panic!(rt; "memory");
-        };
-        let to = MachineNo(1);
-        assert_eq!(rt; send(&mut out, &mut links, to), Err(Refused::NotNow));
-        let Ok(()) = out.reserve(to) else {
-            panic!(rt; "memory");
-        };
-        let scope = ScopeId {
-            home: to,
-            serial: 0,
-        };
-        let seen = Vec::new(alloc);
-        out.put(to, FullMessage::Home { scope, seen });
-        assert_eq!(rt; send(&mut out, &mut links, to), Ok(()));
-        assert!(rt; links.waits(to));
-        assert_eq!(rt; send(&mut out, &mut links, to), Err(Refused::NotNow));
-    }
-}

@@ -14,6 +14,7 @@ mod held;
 mod images;
 mod leading;
 mod locks;
+mod matched;
 mod messages;
 mod pipes;
 mod placed;
@@ -31,12 +32,14 @@ mod stored;
 mod tasks;
 mod updates;
 mod waves;
+mod wholes;
 
 use full::{print_failed_journal, print_full_store};
 use ghosts::print_ghosts;
 use held::print_held;
 use leading::print_leading;
 use locks::print_locks;
+use matched::print_matched;
 use messages::print_messages;
 use pipes::print_pipes;
 use placed::print_placed;
@@ -53,6 +56,7 @@ use store_edits::print_edits;
 use tasks::print_tasks;
 use updates::print_update;
 use waves::print_waves;
+use wholes::print_wholes;
 
 fn main(rt: HostRuntime) -> io::Result<()> {
     print_parts(&rt, rt.alloc())?;
@@ -73,7 +77,9 @@ fn print_parts(rt: &impl Print, alloc: Global) -> io::Result<()> {
     print_snaps(rt, alloc)?;
     print_held(rt, alloc)?;
     print_update(rt, alloc)?;
-    print_placed(rt, alloc)
+    print_placed(rt, alloc)?;
+    print_wholes(rt, alloc)?;
+    print_matched(rt, alloc)
 }
 
 fn print_stores(rt: &impl Print, alloc: Global) -> io::Result<()> {

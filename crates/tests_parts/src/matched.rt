@@ -1,0 +1,154 @@
+//! Pairs on lines of vertices, worked out by hand: an update on all numbers, one at its home and
+//! what it gives another machine, and whole runs.
+ghost use Rattle.std.specs.Prelude.{◌≡◌, length, IfOk};
+
+use crate::graphs::graph_of;
+use full_cluster::{Division, KeptNumbers, update_at};
+use full_runs::{counts_by_machine, run_full};
+use gl_base::{INF, MachineNo, NoMemory, Vertex};
+use graph_core::Graph;
+use prog_match::Pairs;
+use std::alloc::Global;
+use std::io;
+
+/// Prints the numbers of vertices 1 to 4 in a line after updates there, and what runs leave of two
+/// edges and a vertex apart.
+pub fn print_matched(rt: &impl Print, alloc: Global) -> io::Result<()> {
+    match graph_of(alloc, &[1, 2, 3, 4], &[(1, 2), (2, 3), (3, 4)], false) {
+        Ok(line) => print_line(rt, alloc, &line)?,
+        Err(fault) => println!(rt; "line of four: {fault}")?,
+    }
+    match graph_of(alloc, &[1, 2, 3, 4, 5], &[(1, 2), (3, 4)], false) {
+        Ok(apart) => print_runs(rt, alloc, &apart),
+        Err(fault) => println!(rt; "two edges: {fault}"),
+    }
+}
+
+fn print_line(rt: &impl Print, alloc: Global, line: &Graph) -> io::Result<()> {
+    match updated(alloc, line) {
+        Ok(all) => print_numbers(rt, "updated", &all.numbers, &all.edges)?,
+        Err(fault) => println!(rt; "line of four, updated: {fault}")?,
+    }
+    match given(alloc, line) {
+        Ok((home, other)) => {
+            print_kept(rt, "at home", &home)?;
+            print_kept(rt, "at the other machine", &other)
+        }
+        Err(fault) => println!(rt; "line of four, given: {fault}"),
+    }
+}
+
+/// The numbers of the line after an update of its third vertex, and one of its first.
+fn updated(alloc: Global, line: &Graph) -> Result<KeptNumbers, NoMemory> {
+    if line.n() != 4 || line.m() != 3 {
+        return Err(NoMemory);
+    }
+    let owner = [MachineNo(0); 4];
+    let Some(division) = Division::new(line, &owner) else {
+        return Err(NoMemory);
+    };
+    let mut numbers = [INF; 4];
+    let mut edges = [0; 3];
+    for v in [2, 0] {
+        let v = Vertex(v);
+        update_at(alloc, &division, &Pairs, v, &mut numbers, &mut edges)?;
+    }
+    Ok(KeptNumbers {
+        numbers: Vec::from_array(alloc, numbers)?,
+        edges: Vec::from_array(alloc, edges)?,
+        tasks: Vec::new(alloc),
+    })
+}
+
+/// What a machine has after it updated the third vertex of the line, and another one that owns the
+/// first two and was given its part.
+fn given(alloc: Global, line: &Graph) -> Result<(KeptNumbers, KeptNumbers), NoMemory> {
+    if line.n() != 4 || line.m() != 3 {
+        return Err(NoMemory);
+    }
+    let owner = [MachineNo(0), MachineNo(0), MachineNo(1), MachineNo(1)];
+    let Some(division) = Division::new(line, &owner) else {
+        return Err(NoMemory);
+    };
+    let mut home = kept(alloc, [false, false, true, true])?;
+    let mut other = kept(alloc, [true, true, false, false])?;
+    let seen = [(Vertex(1), INF), (Vertex(2), INF), (Vertex(3), INF)];
+    let woken = home.update(alloc, &division, &Pairs, Vertex(2), &seen)?;
+    if home.numbers.len() != 4 || home.edges.len() != 3 {
+        return Err(NoMemory);
+    }
+    let gift = home.give(alloc, &division, Vertex(2), MachineNo(0), woken)?;
+    other.take(&gift);
+    Ok((home, other))
+}
+
+/// What a machine keeps of the line at first, with these tasks.
+fn kept(alloc: Global, tasks: [bool; 4]) -> Result<KeptNumbers, NoMemory>
+    ensures numbers { IfOk result (λ kept. length kept.numbers.items ≡ 4) }
+    ensures edges { IfOk result (λ kept. length kept.edges.items ≡ 3) }
+    ensures tasks { IfOk result (λ kept. length kept.tasks.items ≡ 4) }
+{
+    Ok(KeptNumbers {
+        numbers: Vec::from_array(alloc, [INF; 4])?,
+        edges: Vec::from_array(alloc, [0; 3])?,
+        tasks: Vec::from_array(alloc, tasks)?,
+    })
+}
+
+fn print_kept(rt: &impl Print, place: &str, kept: &KeptNumbers) -> io::Result<()> {
+    print_numbers(rt, place, &kept.numbers, &kept.edges)?;
+    println!(rt; "line of four, {place}: tasks {:?}", kept.tasks)
+}
+
+/// Prints the numbers of vertices, where an unmatched one has none, and of edges.
+fn print_numbers(rt: &impl Print, place: &str, numbers: &[u64], edges: &[u64]) -> io::Result<()> {
+    print!(rt; "line of four, {place}:")?;
+    for number in numbers {
+        print_number(rt, *number)?;
+    }
+    println!(rt; ", edges {edges:?}")
+}
+
+fn print_number(rt: &impl Print, number: u64) -> io::Result<()> {
+    if number == INF {
+        return print!(rt; " none");
+    }
+    print!(rt; " {number}")
+}
+
+/// Prints what is left of a run with an update for each vertex, and of one with one less.
+fn print_runs(rt: &impl Print, alloc: Global, apart: &Graph) -> io::Result<()> {
+    let (low, high) = (MachineNo(0), MachineNo(1));
+    let owner = [low, low, low, high, high];
+    let Some(division) = Division::new(apart, &owner) else {
+        return println!(rt; "two edges: not five vertices");
+    };
+    for budget in [5, 4] {
+        print_run(rt, alloc, &division, budget)?;
+    }
+    Ok(())
+}
+
+fn print_run(
+    rt: &impl Print,
+    alloc: Global,
+    division: &Division<'_>,
+    budget: u64,
+) -> io::Result<()> {
+    let Ok(end) = run_full(alloc, division, &Pairs, budget) else {
+        return println!(rt; "two edges, budget {budget}: no memory");
+    };
+    print!(rt; "two edges, budget {budget}:")?;
+    for number in &end.values {
+        print_number(rt, *number)?;
+    }
+    print!(rt; ", edges {:?}, ", end.edges)?;
+    match end.left {
+        Some(vertex) => print!(rt; "vertex {} left", vertex.0)?,
+        None => print!(rt; "none left")?,
+    }
+    match counts_by_machine(alloc, 2, &end.order) {
+        Ok(done) => println!(rt; ", updates {done:?}"),
+        Err(fault) => println!(rt; ", updates: {fault}"),
+    }
+}
