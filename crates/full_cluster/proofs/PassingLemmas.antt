@@ -113,13 +113,13 @@ passing-within test k (suc many) (suc i) u at = ⊎_elim
     (cases_Bool (test k))
 
 -- what passes is of the range
-pub all_below : (test : ℕ → Bool) (many : ℕ) (part : List Vertex) → map (λ x. x.0) part ≡ passing test 0 many → All (λ x. x.0 < many) part
-all_below test many part is = λ i d inside.
-    let at : slice_get (passing test 0 many) i ≡ Some (slice_index_or part i d).0 =
+pub all_below : {T : Type 0} (f : T → ℕ) (test : ℕ → Bool) (many : ℕ) (list : List T) → map f list ≡ passing test 0 many → All (λ x. f x < many) list
+all_below f test many list is = λ i d inside.
+    let at : slice_get (passing test 0 many) i ≡ Some (f (slice_index_or list i d)) =
     ap (λ (xs : List ℕ). slice_get xs i) (sym is)
-    ∙ slice_get-map (λ (x : Vertex). x.0) part i
-    ∙ ap (option_map (λ (x : Vertex). x.0)) (slice_get-get_or part i d inside) in
-    let below = passing-within test 0 many i (slice_index_or part i d).0 at in
+    ∙ slice_get-map f list i
+    ∙ ap (option_map f) (slice_get-get_or list i d inside) in
+    let below = passing-within test 0 many i (f (slice_index_or list i d)) at in
     omega (arith, below)
 
 -- the first of them is so

@@ -3,7 +3,7 @@ use Rattle.std.specs.Bool.{⊤}
 use Rattle.std.specs.Global.{Vec}
 use Rattle.std.specs.Option.{option_map}
 use Rattle.std.specs.Vec.{vec_capacity, vec_len}
-use Rattle.std.specs.Prelude.{◌≡◌, ℕ, ◌+◌, ◌<◌, true, Option, None, Some, List, length, map, slice_get}
+use Rattle.std.specs.Prelude.{◌≡◌, ℕ, ◌+◌, ◌<◌, true, Option, None, Some, List, [], length, map, slice_get}
 use Rattle.gl_base.specs.declared.numbers.MachineNo.{MachineNo}
 use Rattle.gl_base.specs.declared.numbers.Vertex.{Vertex}
 use Rattle.gl_base.specs.declared.scopes.ScopeId.{ScopeId}
@@ -16,6 +16,7 @@ use Rattle.full_laws.specs.FullEffects.{received_full}
 use Rattle.full_laws.specs.FullMessages as model
 use Rattle.full_laws.specs.FullParts.{FullPart, FullStand}
 use Rattle.full_laws.specs.Items.{AVertex}
+use Rattle.full_cluster.specs.declared.admitting.FullTerms.{FullTerms}
 use Rattle.full_cluster.specs.declared.machines.FullMachine.{FullMachine}
 use Rattle.full_cluster.specs.declared.machines.ScopeStand.{ScopeStand}
 use Rattle.full_cluster.specs.declared.messages.FullMessage.{FullMessage}
@@ -95,6 +96,12 @@ pub record IsSameMachine (old new : FullMachine) : Type 0 where
   pub me : new.me ≡ old.me
   pub machines : length new.out.queues.items ≡ length old.out.queues.items
 
+-- the machine admitted no scope meanwhile, and ended none
+pub record HasSameFlights (old new : FullMachine) : Type 0 where
+  pub flights : new.flights ≡ old.flights
+  pub serial : new.serial ≡ old.serial
+  pub flying : new.flying ≡ old.flying
+
 -- the centre of a scope that comes and the machines to which it may go on are there, and it doesn't stand here yet
 pub record CanComeIn (m : FullMachine) (s : ScopeId) (v : Vertex) (rest : List MachineNo) : Type 0 where
   pub centre : v.0 < length m.kept.numbers.items
@@ -151,3 +158,40 @@ AreStandsWithin m = (s : ScopeId) (stand : ScopeStand) → value_of m.stands.ent
 -- whoever waits first for the lock of x stands before it
 abbrev pub AskForIt : FullPart → ℕ → Type 0
 AskForIt part x = (s : ScopeId) → IsNextOf (part.holds x) (part.queue x) s → (standing : FullStand) × (part.stand s ≡ Some standing) × (standing.lock ≡ x)
+
+-- ---- scopes that a machine admits
+
+-- the setting has so many machines, and so many scopes of one may be in flight
+pub record HasTerms (st : Setting) (terms : FullTerms) : Type 0 where
+  pub machines : st.machines ≡ terms.machines
+  pub pipeline : st.pipeline ≡ terms.pipeline
+
+-- the scope that the machine admits next
+abbrev pub next_scope : FullMachine → ScopeId
+next_scope m = record { home = m.me; serial = m.serial }
+
+-- the scope that the machine admits next is in flight nowhere and stands nowhere here
+pub record IsNextNew (m : FullMachine) : Type 0 where
+  pub flight : value_of m.flights.entries.items (next_scope m) ≡ None
+  pub stand : value_of m.stands.entries.items (next_scope m) ≡ None
+
+-- no scope is twice in one of the machine's lists
+pub record AreScopesOnce (m : FullMachine) : Type 0 where
+  pub flights : AreOnce m.flights.entries.items
+  pub stands : AreOnce m.stands.entries.items
+  pub ready : AreOnce m.ready.entries.items
+
+-- the machine is one of so many, and has a queue for each
+pub record IsOneOf (m : FullMachine) (many : ℕ) : Type 0 where
+  pub me : m.me.0 < many
+  pub queues : length m.out.queues.items ≡ many
+
+-- this machine is one of so many, if it is first of these machines
+abbrev pub IsFirstBelow : List MachineNo → ℕ → Type 0
+IsFirstBelow list many = (b : MachineNo) → slice_get list 0 ≡ Some b → b.0 < many
+
+-- with this message the scope of v sets out to the first of its machines
+pub record IsFirstMessage (message : FullMessage) (s : ScopeId) (v : Vertex) (rest : Vec MachineNo) : Type 0 where
+  pub seen : Vec (Vertex × ℕ)
+  pub none : seen.items ≡ []
+  pub is : message ≡ told.Gather s v rest seen

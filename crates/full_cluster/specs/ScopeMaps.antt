@@ -1,7 +1,8 @@
 -- Values by scope, as a list of pairs.
 use Rattle.std.specs.List.{AllPairs}
 use Rattle.std.specs.Option.{option_map}
-use Rattle.std.specs.Prelude.{List, Option}
+use Rattle.std.specs.Prelude.{◌≡◌, ℕ, ◌<◌, List, Option, length, slice_index_or}
+use Rattle.gl_base.specs.declared.numbers.Vertex.{Vertex}
 use Rattle.gl_base.specs.declared.scopes.ScopeId.{ScopeId}
 use Rattle.gl_base.specs.scope_lists.Found.{AreOfTwoScopes, by_scope}
 
@@ -16,3 +17,8 @@ value_of entries s = option_map (λ entry. entry.1) (by_scope entry_scope entrie
 -- no scope has two values
 abbrev pub AreOnce : {T : Type 0} → List (ScopeId × T) → Type 0
 AreOnce entries = AllPairs (AreOfTwoScopes entry_scope) entries
+
+-- the entry at this place has the vertex
+pub record HasVertexAt (entries : List (ScopeId × Vertex)) (v : Vertex) (i : ℕ) : Type 0 where
+  pub inside : i < length entries
+  pub is : (d : ScopeId × Vertex) → (slice_index_or entries i d).1.0 ≡ v.0

@@ -8,7 +8,7 @@ ghost use Rattle.full_laws.specs.FullEffects.{received_full};
 ghost use Rattle.full_laws.specs.FullMessages.{FullMessage as ModelMessage};
 ghost use Rattle.full_laws.specs.FullParts.{FullPart};
 ghost use Rattle.gl_base.specs.declared.scopes.ScopeId.{ScopeId};
-ghost use Rattle.full_cluster.specs.FullMachines.{GivesWhatItHolds, HasDelivered, HasRoomToGoOn, IsMachineOf, IsOrderedFor, IsPreparedFor, IsReceivable, IsSizedFor, IsSameMachine};
+ghost use Rattle.full_cluster.specs.FullMachines.{GivesWhatItHolds, HasDelivered, HasRoomToGoOn, HasSameFlights, IsMachineOf, IsOrderedFor, IsPreparedFor, IsReceivable, IsSizedFor, IsSameMachine};
 ghost use Rattle.full_cluster.specs.FullQueues.{AreQueuesOf, HasRoomFor, IsFirstIn, IsMessage};
 ghost use Rattle.full_cluster.specs.Given.{IsDividedAs};
 ghost use Rattle.full_cluster.specs.ScopeMaps.{AreOnce};
@@ -65,7 +65,7 @@ impl FullMachine {
 
     /// Makes room to receive a message, and answers which locks a scope that comes with it takes
     /// here. Nothing else changes, whatever the answer.
-    fn prepare(
+    pub(crate) fn prepare(
         &mut self,
         alloc: Global,
         division: &Division<'_>,
@@ -77,6 +77,7 @@ impl FullMachine {
         ensures ordered { (st : Setting) → IsDividedAs st division.now → IfOk result (λ part.
             IsOrderedFor st self.old.me.0 message.now part.items) }
         ensures still { IsSameMachine self.old self.new }
+        ensures flights { HasSameFlights self.old self.new }
         ensures same { (st : Setting) (part : FullPart) →
             IsMachineOf st self.old part → IsMachineOf st self.new part }
         ensures stands { self.new.stands.entries.items ≡ self.old.stands.entries.items }
@@ -105,7 +106,7 @@ impl FullMachine {
 
     /// Receives a message. A scope that comes with it stands before the first of these locks: it
     /// waits for that, or goes on at once if it has none here. It takes no memory.
-    fn receive(&mut self, message: FullMessage, part: Vec<Vertex>)
+    pub(crate) fn receive(&mut self, message: FullMessage, part: Vec<Vertex>)
         requires sized { (g : DataGraph) × IsSizedFor self.old g }
         requires prepared { IsPreparedFor self.old message part }
         requires once { AreOnce self.old.stands.entries.items }
@@ -153,6 +154,7 @@ impl FullMachine {
             next ≡ slice_get stand.part.items stand.place →
             machine ≡ slice_get stand.rest.items 0 → HasRoomToGoOn self.new scope stand) }
         ensures still { IsSameMachine self.old self.new }
+        ensures flights { HasSameFlights self.old self.new }
         ensures same { (st : Setting) (part : FullPart) →
             IsMachineOf st self.old part → IsMachineOf st self.new part }
         ensures stands { self.new.stands.entries.items ≡ self.old.stands.entries.items }

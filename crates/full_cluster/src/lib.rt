@@ -2,6 +2,7 @@
 //! keeps, an update on these, and what the update gives another machine.
 #![tactic(auto)]
 
+mod admitting;
 mod arriving;
 mod divisions;
 mod giving;
@@ -19,6 +20,7 @@ mod sending;
 mod updates;
 mod ways;
 
+pub use admitting::FullTerms;
 pub use divisions::Division;
 pub use giving::FullGift;
 pub use kept::KeptNumbers;

@@ -1,13 +1,14 @@
 //! Values by scope.
-ghost use Rattle.std.specs.Prelude.{◌≡◌, ◌<◌, None, Some, [], vec_len, OnOk, IfSome};
+ghost use Rattle.std.specs.Prelude.{◌≡◌, ◌≢◌, ℕ, ◌<◌, true, false, None, Some, [], length, slice_index_or, vec_len, OnOk, IfSome};
 ghost use Rattle.std.specs.Vec.{vec_capacity};
+ghost use Rattle.gl_base.specs.declared.numbers.Vertex.{Vertex};
 ghost use Rattle.gl_base.specs.declared.scopes.ScopeId.{ScopeId};
 ghost use Rattle.gl_base.specs.scope_lists.Found.{by_scope, StandsAt};
 ghost use Rattle.gl_base.specs.scope_lists.Scopes.{set_for};
-ghost use Rattle.full_cluster.specs.ScopeMaps.{entry_scope, value_of, AreOnce};
+ghost use Rattle.full_cluster.specs.ScopeMaps.{entry_scope, value_of, AreOnce, HasVertexAt};
 
 use gl_base::scope_lists::is_scope;
-use gl_base::{NoMemory, ScopeId};
+use gl_base::{NoMemory, ScopeId, Vertex};
 use std::alloc::Global;
 
 /// Values of scopes, each scope with one at most.
@@ -77,6 +78,33 @@ impl<T> ScopeMap<T> {
         let (_, value) = self.entries.swap_remove(place);
         Some(value)
     }
+}
+
+impl ScopeMap<Vertex> {
+    /// Whether a scope has this vertex.
+    pub fn has(&self, v: Vertex) -> bool
+        requires { AreOnce self.now.entries.items }
+        ensures yes { result ≡ true →
+            (s : ScopeId) × (value_of self.now.entries.items s ≡ Some v) }
+        ensures not { result ≡ false → (s : ScopeId) →
+            value_of self.now.entries.items s ≡ Some v → ⊥ }
+    {
+        place_of_vertex(&self.entries, v).is_some()
+    }
+}
+
+/// Where an entry has the vertex, if one does.
+fn place_of_vertex(entries: &[(ScopeId, Vertex)], v: Vertex) -> Option<usize>
+    ensures there { IfSome result (HasVertexAt entries.now v) }
+    ensures none { result ≡ None → (k : ℕ) (d : ScopeId × Vertex) → k < length entries.now →
+        (slice_index_or entries.now k d).1.0 ≢ v.0 }
+{
+    for (place, entry) in entries.iter().enumerate() {
+        if entry.1.0 == v.0 {
+            return Some(place);
+        }
+    }
+    None
 }
 
 /// Where the scope stands among these, if it does.

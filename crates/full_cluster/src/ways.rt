@@ -42,7 +42,8 @@ impl Division<'_> {
     ) -> Result<Vec<MachineNo>, NoMemory>
         requires vertex { v.0 < size self.now.graph.now }
         requires low { All (λ m. m.0 < machines) self.now.owner.now }
-        ensures { (st : Setting) → IsDividedAs st self.now → st.machines ≡ machines →
+        ensures within { IfOk result (λ list. All (λ m. m.0 < machines) list.items) }
+        ensures order { (st : Setting) → IsDividedAs st self.now → st.machines ≡ machines →
             IfOk result (λ list. map (λ m. m.0) list.items ≡ machines_from st v.0 0) }
     {
         machines_of(alloc, self.graph, self.owner, v, machines)

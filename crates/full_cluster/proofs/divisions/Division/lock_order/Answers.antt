@@ -19,4 +19,4 @@ returns-clause-order c = λ st given.
 pub returns-clause-within : goal.returns-clause-within
 returns-clause-within c =
     let g = c.args.self.now.graph.now in
-    IfOk-weaker c.own_part.result _ _ (λ part is. all_below (is_own_of g (owner_in c.args.self.now.owner.now) c.args.v.0 c.args.machine.0) (size g) part.items is) c.own_part.ensures
+    IfOk-weaker c.own_part.result _ _ (λ part is. all_below (λ (x : Vertex). x.0) (is_own_of g (owner_in c.args.self.now.owner.now) c.args.v.0 c.args.machine.0) (size g) part.items is) c.own_part.ensures
