@@ -14,3 +14,4 @@ pub mod QueueLemmas
 pub mod MachineLemmas
 pub mod GrantLemmas
 pub mod ArrivingLemmas
+pub mod CoherentLemmas

@@ -1,5 +1,5 @@
 //! A machine admits a scope of one of its vertices.
-ghost use Rattle.std.specs.Prelude.{◌≡◌, ◌≢◌, ℕ, suc, ◌+◌, ◌<◌, ◌^◌, ◌∷◌, true, false, None, [], length, map, vec_len, All, IfSome, OnOk, OnErr, IsErrOf};
+ghost use Rattle.std.specs.Prelude.{◌≡◌, ◌+◌, ◌<◌, ◌^◌, ◌∷◌, true, false, None, [], length, map, vec_len, All, IfSome, OnOk, OnErr, IsErrOf};
 ghost use Rattle.std.specs.Vec.{vec_capacity};
 ghost use Rattle.graph_core.specs.DataGraph.{size};
 ghost use Rattle.cluster_laws.specs.cluster_core.Settings.{Setting};

@@ -1,7 +1,7 @@
 //! Messages come to a machine.
 ghost use Rattle.std.specs.Prelude.{◌≡◌, ℕ, ◌<◌, Bool, List, None, Some, slice_get, length, vec_len, OnOk, OnErr, IfOk, IsErrOf};
 ghost use Rattle.std.specs.Vec.{vec_capacity};
-ghost use Rattle.graph_core.specs.DataGraph.{DataGraph, size};
+ghost use Rattle.graph_core.specs.DataGraph.{DataGraph};
 ghost use Rattle.cluster_laws.specs.cluster_core.Settings.{Setting};
 ghost use Rattle.full_laws.specs.FullActions.{HasFirstFull};
 ghost use Rattle.full_laws.specs.FullEffects.{received_full};

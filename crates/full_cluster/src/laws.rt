@@ -1,13 +1,21 @@
-//! Laws of the locks, as a machine of `full_laws` has them. Each is the contract of a function that
-//! does nothing.
-ghost use Rattle.std.specs.Prelude.{◌≡◌, ℕ, ◌<◌, Bool, List, ◌∷◌};
+//! Laws of locks and machines, as a cluster of `full_laws` has them. Each is the contract of a
+//! function that does nothing.
+ghost use Rattle.std.specs.Prelude.{◌≡◌, ℕ, ◌<◌, Bool, List, length, ◌∷◌};
 ghost use Rattle.gl_base.specs.declared.scopes.ScopeId.{ScopeId};
 ghost use Rattle.graph_core.specs.DataGraph.{size};
-ghost use Rattle.cluster_laws.specs.cluster_core.Settings.{Setting};
+ghost use Rattle.cluster_laws.specs.cluster_core.Settings.{IsSetting, Setting};
+ghost use Rattle.full_scope.specs.FullUpdates.{FullUpdate};
 ghost use Rattle.full_laws.specs.FullActions.{MayGrantFull};
 ghost use Rattle.full_laws.specs.FullEffects.{locks_full, released_full};
 ghost use Rattle.full_laws.specs.FullParts.{FullPart};
+ghost use Rattle.full_laws.specs.FullReplays.{IsFullCoherent};
+ghost use Rattle.full_laws.specs.FullWorlds.{FullWorld};
 ghost use Rattle.full_cluster.specs.declared.locks.WholeLock.{WholeLock};
+ghost use Rattle.full_cluster.specs.declared.machines.FullMachine.{FullMachine};
+ghost use Rattle.full_cluster.specs.declared.messages.FullMessage.{FullMessage};
+ghost use Rattle.full_cluster.specs.declared.queues.FullQueue.{FullQueue};
+ghost use Rattle.full_cluster.specs.FullMachines.{AreStandsWithin, AskForIt, IsMachineOf, IsReceivable};
+ghost use Rattle.full_cluster.specs.FullQueues.{AreQueuesOf, IsFirstIn};
 ghost use Rattle.full_cluster.specs.WholeLocks.{IsFreed, IsGrantedTo, IsLockOf, IsUngrantable};
 
 /// A lock is granted just where its machine may grant it, and then is as the machine's is. If it is
@@ -25,4 +33,25 @@ pub fn whole_locks_are_a_machines()
     ensures freed { (part : FullPart) (x : ℕ) (old new : WholeLock) (s : ScopeId) →
         IsLockOf old (part.holds x) (part.queue x) → IsFreed old new s →
         IsLockOf new (released_full s part.holds x) (part.queue x) }
+{}
+
+/// In a coherent cluster whoever waits first for a lock stands before it, as `grant` supposes. And
+/// where a scope stands, the locks and machines to which it may go on are there, as `grant`
+/// requires.
+pub fn coherent_machines_may_grant()
+    ensures asks { (st : Setting) (p : FullUpdate) (w : FullWorld) → IsFullCoherent st p w →
+        (x : ℕ) → AskForIt (w.part (st.owner x)) x }
+    ensures within { (st : Setting) (p : FullUpdate) (w : FullWorld) (m : FullMachine) →
+        IsSetting st → IsFullCoherent st p w → IsMachineOf st m (w.part m.me.0) →
+        length m.out.queues.items ≡ st.machines → AreStandsWithin m }
+{}
+
+/// In a coherent cluster what the first message of a link names is there, and a scope that comes
+/// with it doesn't stand at the machine yet, as `deliver` requires.
+pub fn coherent_machines_may_receive()
+    ensures { (st : Setting) (p : FullUpdate) (w : FullWorld) (m : FullMachine) (from : ℕ)
+        (queues : List FullQueue) (message : FullMessage) →
+        IsSetting st → IsFullCoherent st p w → IsMachineOf st m (w.part m.me.0) →
+        length m.out.queues.items ≡ st.machines → AreQueuesOf st queues (w.link from) →
+        IsFirstIn queues m.me.0 message → IsReceivable m message }
 {}

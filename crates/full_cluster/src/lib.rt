@@ -24,7 +24,9 @@ pub use admitting::FullTerms;
 pub use divisions::Division;
 pub use giving::FullGift;
 pub use kept::KeptNumbers;
-pub use laws::whole_locks_are_a_machines;
+pub use laws::{
+    coherent_machines_may_grant, coherent_machines_may_receive, whole_locks_are_a_machines,
+};
 pub use lock_rows::WholeLocks;
 pub use locks::WholeLock;
 pub use machines::{FullMachine, ScopeStand};

@@ -10,3 +10,4 @@ pub mod FullKeeping
 pub mod FullCoherence
 pub mod MergedOrders
 pub mod WorkedScopes
+pub mod Standing

@@ -1,12 +1,13 @@
 -- A held lock has one holder; each scope is in one place and holds just the locks of that place; and what was gathered for it is
 -- what the owners have.
 use Rattle.std.specs.List.{AllByRecursion}
-use Rattle.std.specs.Prelude.{List, None, Option, Some, [], if◌then◌else◌, is_some, length, map, suc, true, ℕ, ⊤, ◌++◌, ◌∷◌, ◌≡◌}
+use Rattle.std.specs.Prelude.{List, None, Option, Some, [], if◌then◌else◌, is_some, length, map, suc, true, ℕ, ⊤, ◌++◌, ◌<◌, ◌∷◌, ◌≡◌}
 use Rattle.gl_base.specs.declared.scopes.ScopeId.{ScopeId}
+use Rattle.graph_core.specs.DataGraph.{size}
 use Rattle.cluster_laws.specs.cluster_core.Parts.{Stand}
 use Rattle.cluster_laws.specs.cluster_core.Places.{IsStageOf}
-use Rattle.cluster_laws.specs.cluster_core.Scopes.{is_scope}
-use Rattle.cluster_laws.specs.cluster_core.Settings.{Setting}
+use Rattle.cluster_laws.specs.cluster_core.Scopes.{is_scope, machines_from}
+use Rattle.cluster_laws.specs.cluster_core.Settings.{Setting, is_in_scope}
 use Rattle.cluster_laws.specs.cluster_core.Stages.{IsAsked, IsDone, IsReady, Sight, Stage, Token, flying, sight_of}
 use Rattle.full_laws.specs.FullMessages.{FullMessage, Gather, Give, Home}
 use Rattle.full_laws.specs.FullParts.{FullStand}
@@ -90,3 +91,22 @@ pub record AreGathered (w : FullWorld) (what : ScopeId → ℕ → Option ℕ) :
   pub messages : (p q : ℕ) → AllByRecursion (IsTrueMessage what) (full_way w p q)
   pub stands : (a : ℕ) (s : ScopeId) (stand : FullStand) → (w.part a).stand s ≡ Some stand → IsSeen what s stand.seen
   pub ready : (s : ScopeId) (seen : ℕ → Option ℕ) → (w.part s.home.0).ready s ≡ Some seen → IsSeen what s seen
+
+-- ---- where a scope stands
+
+-- Scope s waits at machine a for the lock of one of the machine's vertices in its scope. The machines that own others behind it are
+-- still to come, and its centre is a vertex of its home.
+pub record IsStandingAt (st : Setting) (s : ScopeId) (a : ℕ) (stand : FullStand) : Type 0 where
+  pub vertex : stand.centre < size st.graph
+  pub home : st.owner stand.centre ≡ s.home.0
+  pub inside : is_in_scope st stand.centre stand.lock ≡ true
+  pub here : st.owner stand.lock ≡ a
+  pub rest : stand.rest ≡ machines_from st stand.centre (suc a)
+
+-- Scope s of centre v comes to machine a for its locks there. It stands nowhere at a yet, its centre is a vertex of its home, and the
+-- machines of its scope behind a are still to come.
+pub record IsArrivingAt (st : Setting) (w : FullWorld) (s : ScopeId) (a v : ℕ) (rest : List ℕ) : Type 0 where
+  pub vertex : v < size st.graph
+  pub home : st.owner v ≡ s.home.0
+  pub behind : rest ≡ machines_from st v (suc a)
+  pub nowhere : (w.part a).stand s ≡ None

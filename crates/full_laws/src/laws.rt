@@ -1,5 +1,5 @@
 //! The laws. Each is the contract of a function that does nothing.
-ghost use Rattle.std.specs.Prelude.{◌≡◌, ℕ, ◌<◌, ◌↔◌, true, List, []};
+ghost use Rattle.std.specs.Prelude.{◌≡◌, ℕ, ◌<◌, ◌↔◌, true, Option, Some, List, [], ◌∷◌};
 ghost use Rattle.gl_base.specs.declared.entries.Entry.{Entry};
 ghost use Rattle.gl_base.specs.declared.scopes.ScopeId.{ScopeId};
 ghost use Rattle.graph_core.specs.DataGraph.{size};
@@ -10,6 +10,9 @@ ghost use Rattle.full_scope.specs.FullStates.{AgreeAround};
 ghost use Rattle.full_scope.specs.FullUpdates.{FullUpdate};
 ghost use Rattle.full_laws.specs.FullActions.{FullAction, MayHappenFull, Updates};
 ghost use Rattle.full_laws.specs.FullEffects.{lent_full};
+ghost use Rattle.full_laws.specs.FullMessages.{FullMessage, Gather};
+ghost use Rattle.full_laws.specs.FullParts.{FullStand};
+ghost use Rattle.full_laws.specs.FullPlaces.{times_among, IsArrivingAt, IsStandingAt};
 ghost use Rattle.full_laws.specs.FullReplays.{IsFullCoherent, all_logs};
 ghost use Rattle.full_laws.specs.FullRuns.{IsFullStart, IsFullRun, IsAllGiven};
 ghost use Rattle.full_laws.specs.FullWorlds.{FullWorld};
@@ -36,6 +39,27 @@ pub fn full_logs_merge_to_their_order()
     ensures { (st : Setting) (p : FullUpdate) (w : FullWorld) (kept : IsFullCoherent st p w) →
         IsSetting st → (merged : List Entry) → IsMerge (all_logs st w) merged →
         (merged ≡ kept.order) × IsFullyValid st.graph p merged }
+{}
+
+/// Whoever waits for a lock stands before it: each in a queue at the owner of its vertex does. And
+/// where a scope stands, its lock is one of that machine, and the machines that own others of its
+/// vertices and come behind that one are still to come.
+pub fn waiting_scopes_stand()
+    ensures queued { (st : Setting) (p : FullUpdate) (w : FullWorld) → IsFullCoherent st p w →
+        (s : ScopeId) (x : ℕ) → 0 < times_among s ((w.part (st.owner x)).queue x) →
+        (stand : FullStand) × ((w.part (st.owner x)).stand s ≡ Some stand) × (stand.lock ≡ x) }
+    ensures standing { (st : Setting) (p : FullUpdate) (w : FullWorld) → IsFullCoherent st p w →
+        (s : ScopeId) (a : ℕ) (stand : FullStand) → (w.part a).stand s ≡ Some stand →
+        IsStandingAt st s a stand }
+{}
+
+/// A scope that comes to a machine for its locks there stands nowhere at that machine yet. Its
+/// centre is a vertex of its home, and the machines of its scope behind this one are still to come.
+pub fn arriving_scopes_stand_nowhere()
+    ensures { (st : Setting) (p : FullUpdate) (w : FullWorld) → IsFullCoherent st p w →
+        (from to : ℕ) (s : ScopeId) (v : ℕ) (rest : List ℕ) (seen : ℕ → Option ℕ)
+        (behind : List FullMessage) → w.link from to ≡ Gather s v rest seen ∷ behind →
+        IsArrivingAt st w s to v rest }
 {}
 
 /// No vertex is in the scopes of two updates that are ready.

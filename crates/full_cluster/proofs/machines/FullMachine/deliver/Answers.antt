@@ -1,4 +1,4 @@
-use Rattle.std.proofs.Common.{◌≡◌, refl, sym, subst}
+use Rattle.std.proofs.Common.{refl, sym, subst}
 use Rattle.gl_base.specs.declared.numbers.MachineNo.{MachineNo}
 use Rattle.full_laws.specs.FullEffects.{received_full}
 use Rattle.full_cluster.specs.declared.messages.FullMessage.{FullMessage}
