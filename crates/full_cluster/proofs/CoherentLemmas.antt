@@ -13,22 +13,24 @@ use Rattle.cluster_laws.specs.cluster_core.Settings.{IsSetting, Setting}
 use Rattle.cluster_laws.proofs.cluster_core.Basics.{all_passing-cons}
 use Rattle.cluster_laws.proofs.cluster_core.Nearness.{is_own}
 use Rattle.full_scope.specs.FullUpdates.{FullUpdate}
+use Rattle.full_laws.specs.FullEffects.{scope_of}
 use Rattle.full_laws.specs.FullMessages as model
 use Rattle.full_laws.specs.FullMessages.{Gift}
 use Rattle.full_laws.specs.FullParts.{FullStand}
 use Rattle.full_laws.specs.FullPlaces.{IsArrivingAt, IsStandingAt, times_among}
 use Rattle.full_laws.specs.FullReplays.{IsFullCoherent}
 use Rattle.full_laws.specs.FullWorlds.{FullWorld}
-use Rattle.full_laws.proofs.Standing.{gather_comes, queued_stands, stand_is}
+use Rattle.full_laws.proofs.Standing.{gather_comes, next_flight, next_stand, queued_stands, stand_is}
 use Rattle.full_cluster.specs.declared.machines.FullMachine.{FullMachine}
 use Rattle.full_cluster.specs.declared.machines.ScopeStand.{ScopeStand}
 use Rattle.full_cluster.specs.declared.messages.FullMessage.{FullMessage}
 use Rattle.full_cluster.specs.declared.messages.FullMessage.TheVariants as told
 use Rattle.full_cluster.specs.declared.queues.FullQueue.{FullQueue}
-use Rattle.full_cluster.specs.FullMachines.{AreStandsWithin, AskForIt, IsMachineOf, IsReceivable, IsStandOf, StandsAs}
+use Rattle.full_cluster.specs.FullMachines.{AreStandsWithin, AskForIt, IsMachineOf, IsNextNew, IsReceivable, IsStandOf, StandsAs, next_scope}
 use Rattle.full_cluster.specs.FullQueues.{AreMessages, AreQueuesOf, IsFirstIn, IsMessage, seen_in}
 use Rattle.full_cluster.specs.Given.{IsGift, IsWithin}
 use Rattle.full_cluster.specs.ScopeMaps.{value_of}
+use Rattle.full_cluster.proofs.ScopeMapLemmas.{map_none}
 
 pub asks : (st : Setting) (p : FullUpdate) (w : FullWorld) → IsFullCoherent st p w → (x : ℕ) → AskForIt (w.part (st.owner x)) x
 asks st p w kept x = λ s next.
@@ -115,3 +117,16 @@ receivable st p w m from queues (told.Give s gift) is kept machine many are one 
     let says : (given : Gift) × (first.0 ≡ model.Give s given) × IsGift st gift given × IsWithin (size st.graph) (length st.graph.edges) gift = first.3 in
     subst (λ (n : ℕ). IsWithin n (length m.kept.edges.items) gift) (sym machine.numbers.count)
     (subst (λ (n : ℕ). IsWithin (size st.graph) n gift) (sym machine.numbers.edge_count) says.3)
+
+-- ---- the scope that is admitted next
+
+pub next_new : (st : Setting) (p : FullUpdate) (w : FullWorld) (m : FullMachine) → IsFullCoherent st p w → IsMachineOf st m (w.part m.me.0) → IsNextNew m
+next_new st p w m kept machine =
+    let a = m.me.0 in
+    let s : ScopeId = next_scope m in
+    let lands : (w.part a).flight s ≡ None = subst (λ (n : ℕ). (w.part a).flight (scope_of a n) ≡ None) machine.serial (next_flight st p w kept a) in
+    let away : (w.part a).stand s ≡ None = subst (λ (n : ℕ). (w.part a).stand (scope_of a n) ≡ None) machine.serial (next_stand st p w kept a a) in
+    record {
+      flight = map_none (λ (v : Vertex). v.0) (value_of m.flights.entries.items s) (sym (machine.flights s) ∙ lands);
+      stand = not_stood st a (value_of m.stands.entries.items s) (subst (λ (o : Option FullStand). StandsAs st a (value_of m.stands.entries.items s) o) away (machine.stands s));
+    }

@@ -13,7 +13,7 @@ use Rattle.gl_base.proofs.scope_lists.FoundLemmas.{apart_pushed, found_at, found
 use Rattle.gl_base.proofs.scope_lists.SameScope.{one_or_two, same_scope, set_for-here, set_for-there}
 use Rattle.full_cluster.specs.ScopeMaps.{AreOnce, HasVertexAt, entry_scope, value_of}
 
-map_none : {A B : Type 0} (f : A → B) (o : Option A) → option_map f o ≡ None → o ≡ None
+pub map_none : {A B : Type 0} (f : A → B) (o : Option A) → option_map f o ≡ None → o ≡ None
 map_none f None is = refl
 map_none f (Some x) is = cc
 

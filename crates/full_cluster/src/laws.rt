@@ -14,7 +14,7 @@ ghost use Rattle.full_cluster.specs.declared.locks.WholeLock.{WholeLock};
 ghost use Rattle.full_cluster.specs.declared.machines.FullMachine.{FullMachine};
 ghost use Rattle.full_cluster.specs.declared.messages.FullMessage.{FullMessage};
 ghost use Rattle.full_cluster.specs.declared.queues.FullQueue.{FullQueue};
-ghost use Rattle.full_cluster.specs.FullMachines.{AreStandsWithin, AskForIt, IsMachineOf, IsReceivable};
+ghost use Rattle.full_cluster.specs.FullMachines.{AreStandsWithin, AskForIt, IsMachineOf, IsNextNew, IsReceivable};
 ghost use Rattle.full_cluster.specs.FullQueues.{AreQueuesOf, IsFirstIn};
 ghost use Rattle.full_cluster.specs.WholeLocks.{IsFreed, IsGrantedTo, IsLockOf, IsUngrantable};
 
@@ -54,4 +54,10 @@ pub fn coherent_machines_may_receive()
         IsSetting st → IsFullCoherent st p w → IsMachineOf st m (w.part m.me.0) →
         length m.out.queues.items ≡ st.machines → AreQueuesOf st queues (w.link from) →
         IsFirstIn queues m.me.0 message → IsReceivable m message }
+{}
+
+/// In a coherent cluster the scope that a machine admits next is new to it, as `admit` requires.
+pub fn coherent_machines_may_admit()
+    ensures { (st : Setting) (p : FullUpdate) (w : FullWorld) (m : FullMachine) →
+        IsFullCoherent st p w → IsMachineOf st m (w.part m.me.0) → IsNextNew m }
 {}

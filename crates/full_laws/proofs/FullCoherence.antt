@@ -172,6 +172,7 @@ coherent st p w kept =
       places = record {
         shows = λ s. shows_as st w kept.placed s (kept.placed.stage s) refl;
         stages = stages_are st w kept.placed;
+        admitted = λ s busy. subst (λ (n : ℕ). s.serial < n) (kept.placed.mirrors.parts s.home.0).serial (kept.placed.places.admitted s busy);
         single = kept.placed.places.single;
         tasks = λ s v flies. kept.flights s v ((shows_as st w kept.placed s (kept.placed.stage s) refl).flight ∙ flying_seen st s (kept.placed.stage s) ∙ flies);
       };

@@ -1,5 +1,5 @@
 -- Where a scope stands that waits for a lock, and where it doesn't stand yet.
-use Rattle.std.proofs.Common.{◌≡◌, ℕ, suc, ◌<◌, ◌==◌, Bool, true, false, Option, None, Some, List, [], ◌∷◌, ◌++◌, length, map, refl, sym, ◌∙◌, ap, subst, ⊎_elim, eq-eqb, arith}
+use Rattle.std.proofs.Common.{◌≡◌, ◌≢◌, ◌⊎◌, ℕ, suc, ◌<◌, ◌==◌, Bool, true, false, Option, None, Some, List, [], ◌∷◌, ◌++◌, length, map, refl, sym, ◌∙◌, ap, subst, ⊎_elim, inl, inr, eq-eqb, arith}
 use Rattle.std.proofs.lemmas.Bool.{cases_Bool, eqb-true}
 use Rattle.gl_base.specs.declared.scopes.Claim.{Claim}
 use Rattle.gl_base.specs.declared.scopes.ScopeId.{ScopeId}
@@ -11,6 +11,7 @@ use Rattle.cluster_laws.specs.cluster_core.Settings.{Setting, is_in_scope}
 use Rattle.cluster_laws.specs.cluster_core.Stages.{Asks, Ends, Idle, IsAsked, IsDone, IsReady, Returns, Stage, Stays, Token, Waits, sight_of, some_if}
 use Rattle.cluster_laws.proofs.cluster_core.Basics.{same_scope}
 use Rattle.cluster_laws.proofs.cluster_places.Seen.{asked_stage, waiting_stage}
+use Rattle.full_laws.specs.FullEffects.{scope_of}
 use Rattle.full_laws.specs.FullMessages.{FullMessage, Gather}
 use Rattle.full_laws.specs.FullParts.{FullStand}
 use Rattle.full_laws.specs.FullPlaces.{FullToken, IsArrivingAt, IsGathering, IsStandingAt, as_token, bare_stand, full_tokens_of, times_among}
@@ -66,6 +67,14 @@ bare_none : (o : Option FullStand) → bare_stand o ≡ None → o ≡ None
 bare_none None is = refl
 bare_none (Some stand) is = cc
 
+idle_or : (x : Stage) → (x ≡ Idle) ⊎ (x ≢ Idle)
+idle_or Idle = inl refl
+idle_or (Asks v from to) = inr (λ is. cc)
+idle_or (Waits v lock) = inr (λ is. cc)
+idle_or (Returns v from) = inr (λ is. cc)
+idle_or (Stays v) = inr (λ is. cc)
+idle_or (Ends v to) = inr (λ is. cc)
+
 module _ (st : Setting) (p : FullUpdate) (w : FullWorld) (kept : IsFullCoherent st p w) where
   abbrev stage : ScopeId → Stage
   stage = kept.stage
@@ -113,3 +122,19 @@ module _ (st : Setting) (p : FullUpdate) (w : FullWorld) (kept : IsFullCoherent 
         behind = asks.1;
         nowhere = bare_none ((w.part to).stand s) (h.stand to ∙ ap (λ (y : Stage). (sight_of st s y).stand to) asks.0);
       }
+
+  next_idle : (a : ℕ) → stage (scope_of a (w.part a).serial) ≡ Idle
+  next_idle a = ⊎_elim
+      (λ (is : stage (scope_of a (w.part a).serial) ≡ Idle). is)
+      (λ (busy : stage (scope_of a (w.part a).serial) ≢ Idle). let early = kept.places.admitted (scope_of a (w.part a).serial) busy in absurd (omega (arith, early)))
+      (idle_or (stage (scope_of a (w.part a).serial)))
+
+  pub next_flight : (a : ℕ) → (w.part a).flight (scope_of a (w.part a).serial) ≡ None
+  next_flight a =
+      let s : ScopeId = scope_of a (w.part a).serial in
+      (kept.places.shows s).flight ∙ ap (λ (y : Stage). (sight_of st s y).flight) (next_idle a)
+
+  pub next_stand : (a b : ℕ) → (w.part b).stand (scope_of a (w.part a).serial) ≡ None
+  next_stand a b =
+      let s : ScopeId = scope_of a (w.part a).serial in
+      bare_none ((w.part b).stand s) ((kept.places.shows s).stand b ∙ ap (λ (y : Stage). (sight_of st s y).stand b) (next_idle a))

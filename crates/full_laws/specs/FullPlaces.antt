@@ -1,14 +1,14 @@
 -- A held lock has one holder; each scope is in one place and holds just the locks of that place; and what was gathered for it is
 -- what the owners have.
 use Rattle.std.specs.List.{AllByRecursion}
-use Rattle.std.specs.Prelude.{List, None, Option, Some, [], if◌then◌else◌, is_some, length, map, suc, true, ℕ, ⊤, ◌++◌, ◌<◌, ◌∷◌, ◌≡◌}
+use Rattle.std.specs.Prelude.{List, None, Option, Some, [], if◌then◌else◌, is_some, length, map, suc, true, ℕ, ⊤, ◌++◌, ◌<◌, ◌∷◌, ◌≡◌, ◌≢◌}
 use Rattle.gl_base.specs.declared.scopes.ScopeId.{ScopeId}
 use Rattle.graph_core.specs.DataGraph.{size}
 use Rattle.cluster_laws.specs.cluster_core.Parts.{Stand}
 use Rattle.cluster_laws.specs.cluster_core.Places.{IsStageOf}
 use Rattle.cluster_laws.specs.cluster_core.Scopes.{is_scope, machines_from}
 use Rattle.cluster_laws.specs.cluster_core.Settings.{Setting, is_in_scope}
-use Rattle.cluster_laws.specs.cluster_core.Stages.{IsAsked, IsDone, IsReady, Sight, Stage, Token, flying, sight_of}
+use Rattle.cluster_laws.specs.cluster_core.Stages.{Idle, IsAsked, IsDone, IsReady, Sight, Stage, Token, flying, sight_of}
 use Rattle.full_laws.specs.FullMessages.{FullMessage, Gather, Give, Home}
 use Rattle.full_laws.specs.FullParts.{FullStand}
 use Rattle.full_laws.specs.FullWorlds.{FullWorld, full_way, number_at}
@@ -66,6 +66,8 @@ pub record ShowsFull (st : Setting) (w : FullWorld) (s : ScopeId) (seen : Sight)
 pub record AreFullPlaces (st : Setting) (w : FullWorld) (stage : ScopeId → Stage) : Type 0 where
   pub shows : (s : ScopeId) → ShowsFull st w s (sight_of st s (stage s))
   pub stages : (s : ScopeId) → IsStageOf st s (stage s)
+  -- only scopes that were admitted are in some place
+  pub admitted : (s : ScopeId) → stage s ≢ Idle → s.serial < (w.part s.home.0).serial
   -- no two scopes in flight have one vertex, and each has one that is a task of its home
   pub single : (s t : ScopeId) (v : ℕ) → flying (stage s) ≡ Some v → flying (stage t) ≡ Some v → s ≡ t
   pub tasks : (s : ScopeId) (v : ℕ) → flying (stage s) ≡ Some v → (w.part s.home.0).task v ≡ true

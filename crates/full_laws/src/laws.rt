@@ -1,5 +1,5 @@
 //! The laws. Each is the contract of a function that does nothing.
-ghost use Rattle.std.specs.Prelude.{◌≡◌, ℕ, ◌<◌, ◌↔◌, true, Option, Some, List, [], ◌∷◌};
+ghost use Rattle.std.specs.Prelude.{◌≡◌, ℕ, ◌<◌, ◌↔◌, true, Option, None, Some, List, [], ◌∷◌};
 ghost use Rattle.gl_base.specs.declared.entries.Entry.{Entry};
 ghost use Rattle.gl_base.specs.declared.scopes.ScopeId.{ScopeId};
 ghost use Rattle.graph_core.specs.DataGraph.{size};
@@ -9,7 +9,7 @@ ghost use Rattle.full_scope.specs.FullOrders.{IsFullyValid, full_replay, full_ta
 ghost use Rattle.full_scope.specs.FullStates.{AgreeAround};
 ghost use Rattle.full_scope.specs.FullUpdates.{FullUpdate};
 ghost use Rattle.full_laws.specs.FullActions.{FullAction, MayHappenFull, Updates};
-ghost use Rattle.full_laws.specs.FullEffects.{lent_full};
+ghost use Rattle.full_laws.specs.FullEffects.{lent_full, scope_of};
 ghost use Rattle.full_laws.specs.FullMessages.{FullMessage, Gather};
 ghost use Rattle.full_laws.specs.FullParts.{FullStand};
 ghost use Rattle.full_laws.specs.FullPlaces.{times_among, IsArrivingAt, IsStandingAt};
@@ -60,6 +60,14 @@ pub fn arriving_scopes_stand_nowhere()
         (from to : ℕ) (s : ScopeId) (v : ℕ) (rest : List ℕ) (seen : ℕ → Option ℕ)
         (behind : List FullMessage) → w.link from to ≡ Gather s v rest seen ∷ behind →
         IsArrivingAt st w s to v rest }
+{}
+
+/// The scope that a machine admits next is not in flight, and stands nowhere.
+pub fn next_scopes_are_new()
+    ensures flight { (st : Setting) (p : FullUpdate) (w : FullWorld) → IsFullCoherent st p w →
+        (a : ℕ) → (w.part a).flight (scope_of a (w.part a).serial) ≡ None }
+    ensures stand { (st : Setting) (p : FullUpdate) (w : FullWorld) → IsFullCoherent st p w →
+        (a b : ℕ) → (w.part b).stand (scope_of a (w.part a).serial) ≡ None }
 {}
 
 /// No vertex is in the scopes of two updates that are ready.
