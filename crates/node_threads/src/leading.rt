@@ -4,7 +4,8 @@ ghost use Rattle.std.specs.Prelude.{◌≡◌, ◌*◌, ◌^◌, ◌<◌, suc, l
 ghost use Rattle.node_threads.specs.Nodes.{AllFrom, FitsBoard, IsAtBoard, LeadsBoard};
 
 use crate::serving::{LOOKS, play_turn};
-use gl_base::{FailureAt, NoMemory};
+use cluster_step::clusters::Coordinator;
+use gl_base::{FailureAt, MAX_SNAPSHOTS, NoMemory};
 use std::alloc::Global;
 use std::sync::Wait;
 use std::thread;
@@ -71,8 +72,8 @@ fn play_each<M: EagerMachine>(
 
 /// The coordinator has a turn. It puts no wave out before nothing has moved for some rounds, unless
 /// it is alone: no machine is on another thread. The halt is raised for want of memory, where a
-/// record is due, the end, and where nothing has moved for too long. Returns for how many rounds
-/// nothing has moved.
+/// record is due, the end, where a full store needs one more, and where nothing has moved for too
+/// long. Returns for how many rounds nothing has moved.
 fn lead_on<M: EagerMachine>(
     alloc: Global,
     board: &Board<M>,
@@ -86,6 +87,10 @@ fn lead_on<M: EagerMachine>(
     requires first { LeadsBoard board.now first.old.lead.number first.old }
     ensures { OnOk result (LeadsBoard board.now first.old.lead.number first.new) }
 {
+    if needs_more(&first.lead.coordinator) {
+        board.raise(&mut first.place);
+        return Ok(0);
+    }
     let quiet = !moved && (alone || idle >= LOOKS);
     match board.direct(alloc, &mut first.lead, &mut first.place, !quiet) {
         Ok(Directed::Moved) if moved || quiet => Ok(0),
@@ -107,4 +112,9 @@ fn lead_on<M: EagerMachine>(
             Err(NoMemory)
         }
     }
+}
+
+/// Whether a snapshot is under way while as many are stored as may be.
+fn needs_more(coordinator: &Coordinator) -> bool {
+    coordinator.stored() >= MAX_SNAPSHOTS && coordinator.is_under_way()
 }
