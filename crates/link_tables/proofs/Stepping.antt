@@ -12,7 +12,7 @@ use Rattle.link_tables.specs.Seats.{Sat, sight, view, saw, word_at, Rests, Holds
 use Rattle.link_tables.specs.Rule.{AreSeated, ShowsLinks, HoldsTable, Carries, CarriesLink, CarriesTicket, Learnt}
 use Rattle.link_tables.specs.Steps.{looked, looked_at_link, looked_at_halt, took, gave, drew, changed_alone, lifted, took_by, gave_by, drew_by, changed_by}
 use Rattle.link_tables.specs.declared.views.View.{View}
-use Rattle.link_tables.proofs.Lists.{is_there, in_range, total_set, term_le}
+use Rattle.link_tables.proofs.Lists.{is_there, in_range, total_set, term_le, term_there}
 use Rattle.link_tables.proofs.Links.{stays, appended, takes_one, gives_one}
 use Rattle.link_tables.proofs.Seating.{sits, moves_on, cuts, joins}
 
@@ -75,10 +75,34 @@ module _ {P Q : Type 0} (number_of : P → ℕ) (Empty : Q → Type 0) (Led : Li
       let q = in_range h.1 k (omega (arith, h.4.count)) in
       (saw m.0 i (get_or s.words i 0), keeps, tt, looks s h i id (get_or s.words i 0) m.0 at, (refl, subst (λ n. get_or s.words n 0 ≤ 2) (sym is) (h.4.linked.low k q.0 q.1)))
 
-  pub looks_at_halt : (slots id i : ℕ) (m : Sat P Q) → i ≡ word_at (many + 1) → Allows Rule slots id m i (λ n. n) (looked_at_halt (step slots i 0 0 maybe.none) m)
-  looks_at_halt slots id i m is s h deep at small =
-      let t = term_le (λ (u : View P Q). u.raised) s.views id m.0 at in let up = h.4.halt in let a : get_or s.words i 0 ≡ get_or s.words (word_at (many + 1)) 0 = ap (λ n. get_or s.words n 0) is in
-      (saw m.0 i (get_or s.words i 0), keeps, tt, looks s h i id (get_or s.words i 0) m.0 at, (refl, λ zero_is. omega arith))
+  pub looks_at_halt : {K : Type 0} (Leads : K → List P → List Q → ℕ → ℕ → Type 0) (about : K) → Leads about ≡ Led → (slots id i : ℕ) (m : Sat P Q) → i ≡ word_at (many + 1) → Allows Rule slots id m i (λ n. n) (looked_at_halt number_of Empty Leads (step slots i 0 0 maybe.none) m)
+  looks_at_halt Leads about led slots id i m is s h deep at small =
+      let raised = λ (u : View P Q). u.raised in
+      let t = term_le raised s.views id m.0 at in
+      let up = h.4.halt in
+      let a : get_or s.words i 0 ≡ get_or s.words (word_at (many + 1)) 0 = ap (λ n. get_or s.words n 0) is in (
+        saw m.0 i (get_or s.words i 0),
+        keeps,
+        tt,
+        looks s h i id (get_or s.words i 0) m.0 at,
+        (
+          refl,
+          λ zero_is. omega arith,
+          many,
+          is,
+          record {
+            about = about;
+            top = top;
+            peers = peers;
+            state = s;
+            holds = subst (λ (L : List P → List Q → ℕ → ℕ → Type 0). HoldsTable number_of Empty L many top peers s) (sym led) h;
+            seat = id;
+            here = at;
+            raised = λ some_is. term_there raised s.views (omega arith);
+            down = λ zero_is k v there. let u = term_le raised s.views k v there in omega arith;
+          },
+        ),
+      )
 
   -- ---- raising the halt
   pub lifts : (slots id i : ℕ) (m : Sat P Q) → i ≡ word_at (many + 1) → Allows Rule slots id m i (λ _. 1) (λ _. lifted (step slots i 1 0 maybe.none) m 1)

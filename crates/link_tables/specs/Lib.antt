@@ -1,4 +1,5 @@
 pub mod Rule
 pub mod Seats
+pub mod Halts
 pub mod Steps
 pub mod Sights

@@ -1,6 +1,7 @@
 -- What each step tells: of the step, the seat before, the number found and the seat after.
-use Rattle.std.specs.Prelude.{◌≡◌, ◌≢◌, ℕ, suc, ◌≤◌, ◌∷◌, Option, Some, None, ⊤}
+use Rattle.std.specs.Prelude.{◌≡◌, ◌≢◌, ℕ, suc, ◌+◌, ◌≤◌, List, ◌∷◌, Option, Some, None, ⊤}
 use Rattle.atomic_table.specs.Table.{Step, rest}
+use Rattle.link_tables.specs.Halts.{HaltWas}
 use Rattle.link_tables.specs.Seats.{Sat, sight, view, with_first, saw, word_at}
 
 abbrev pub PlayOf : Type 0 → Type 0 → Type 1
@@ -14,9 +15,10 @@ looked st m r n = n ≡ (saw m.0 st.word r, m.1)
 abbrev pub looked_at_link : {P Q : Type 0} → PlayOf P Q
 looked_at_link st m r n = (n ≡ (saw m.0 st.word r, m.1)) × (r ≤ 2)
 
--- where the halt isn't up, the seat hasn't raised it
-abbrev pub looked_at_halt : {P Q : Type 0} → PlayOf P Q
-looked_at_halt st m r n = (n ≡ (saw m.0 st.word r, m.1)) × (r ≡ 0 → m.0.raised ≡ 0)
+-- the halt is up where a seat has raised it; where it isn't up, the seat hasn't raised it
+abbrev pub looked_at_halt : {P Q K : Type 0} → (P → ℕ) → (Q → Type 0) → (K → List P → List Q → ℕ → ℕ → Type 0) → PlayOf P Q
+looked_at_halt number_of Empty Led st m r n =
+    (n ≡ (saw m.0 st.word r, m.1)) × (r ≡ 0 → m.0.raised ≡ 0) × (many : ℕ) × (st.word ≡ word_at (many + 1)) × HaltWas number_of Empty Led many m r
 
 -- the seat has raised the halt once more
 abbrev pub lifted : {P Q : Type 0} → PlayOf P Q

@@ -70,10 +70,12 @@ impl<P, Q> Play<Padded<Q>, View<P, Q>> for LookAtLink {
     ghost then = { looked_at_link };
 }
 
-pub(crate) struct LookAtHalt;
+pub(crate) struct LookAtHalt<K, R> {
+    of: PhantomData<(K, R)>,
+}
 
-impl<P, Q> Play<Padded<Q>, View<P, Q>> for LookAtHalt {
-    ghost then = { looked_at_halt };
+impl<P, Q, K, R: LinkRule<P, Q, K>> Play<Padded<Q>, View<P, Q>> for LookAtHalt<K, R> {
+    ghost then = { looked_at_halt R.number_of R.empty R.led };
 }
 
 pub(crate) struct Lift;

@@ -2,6 +2,7 @@
 ghost use Rattle.std.specs.Prelude.{◌≡◌, ◌≢◌, ◌↔◌, ℕ, suc, ◌+◌, ◌*◌, ◌^◌, ◌<◌, ◌≤◌, List, [], ◌∷◌, ◌++◌, true, false, length, slice_index, Some, None, IfOk, vec_len, vec_capacity};
 ghost use Rattle.atomic_table.specs.Table.{rest};
 ghost use Rattle.link_tables.specs.Seats.{view, number_in, word_at, Rests, HoldsLink, with_first, saw, sight, first_alone, second_alone, together};
+ghost use Rattle.link_tables.specs.Halts.{FindsHalt};
 ghost use Rattle.link_tables.specs.Rule.{Carries, CarriesLink, CarriesTicket, Learnt, AreInOrder, AllHere, Ended};
 ghost use Rattle.link_tables.specs.declared.words.LinkWord.TheVariants.{Bare, Out};
 
@@ -145,7 +146,7 @@ impl<P, Q: Drop, K: Drop, R: LinkRule<P, Q, K>> LinkTable<P, Q, K, R> {
         self.table.shared.load::<Look>(&mut place.seat, word)
     }
 
-    /// Says whether the halt is up. It is, once any seat has raised it.
+    /// Says whether the halt is up. It is exactly where a seat has raised it.
     pub fn is_halted(&self, place: &mut Place<P, Q>) -> bool
         requires table { place.old.seat.table_id ≡ self.now.table.shared.table_id }
         ensures table { place.new.seat.table_id ≡ place.old.seat.table_id }
@@ -155,9 +156,13 @@ impl<P, Q: Drop, K: Drop, R: LinkRule<P, Q, K>> LinkTable<P, Q, K, R> {
               place.old.seat.me.1,
             )) × (result ≡ true → number ≢ 0) × (result ≡ false → number ≡ 0) }
         ensures own { result ≡ false → place.old.seat.me.0.raised ≡ 0 }
+        ensures exact { FindsHalt R.number_of R.empty R.led self.now.many place.old.seat.me result }
     {
         let word = word_place(self.many + 1);
-        self.table.shared.load::<LookAtHalt>(&mut place.seat, word) != 0
+        self.table
+            .shared
+            .load::<LookAtHalt<K, R>>(&mut place.seat, word)
+            != 0
     }
 
     /// Raises the halt, which stays up.
