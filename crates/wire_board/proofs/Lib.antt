@@ -15,3 +15,4 @@ pub mod Gathering
 pub mod Attempting
 pub mod Turning
 pub mod Sighting
+pub mod Acting

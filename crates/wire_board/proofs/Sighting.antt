@@ -1,5 +1,5 @@
 -- What a seat has found on links, over several steps.
-use Rattle.std.proofs.Common.{None, Option, Some, [], ap, inl, inr, length, refl, subst, ⊎_elim, ◌<◌, ◌≡◌, ◌≢◌, ◌≤◌, ◌∙◌, ◌⊎◌, ℕ}
+use Rattle.std.proofs.Common.{None, Option, Some, [], ap, inl, inr, length, refl, subst, ⊎_elim, ◌<◌, ◌≡◌, ◌≢◌, ◌≤◌, ◌∙◌, ℕ}
 use Rattle.std.specs.Prelude.{Err, IfNone, IfOk, IfSome, Ok, OnOk, Result}
 use Rattle.link_tables.proofs.Seeing.{seen_read, seen_sees, seen_then, then_seen}
 use Rattle.link_tables.specs.Seats.{saw, sight}

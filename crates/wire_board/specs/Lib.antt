@@ -8,3 +8,6 @@ pub mod Seats
 pub mod Sights
 pub mod Closings
 pub mod Attempts
+pub mod Acts
+pub mod Halts
+pub mod Directing

@@ -4,6 +4,7 @@ ghost use Rattle.link_tables.specs.Rule.{AllHere, Ended};
 ghost use Rattle.link_tables.specs.Seats.{Rests, first_alone, saw, second_alone, together, view, word_at};
 ghost use Rattle.link_tables.specs.declared.words.LinkWord.TheVariants.{Bare, Out};
 ghost use Rattle.cluster_step.specs.clusters.Clusters.{StandsForSaving};
+ghost use Rattle.wire_board.specs.Halts.{FindsBoardHalt};
 ghost use Rattle.wire_board.specs.Led.{HasBeenLed, IsBare, Learns, link_no, number_of};
 ghost use Rattle.wire_board.specs.Openings.{AreOpening, first_parts, standing_parts};
 
@@ -124,7 +125,7 @@ impl<M: SavingMachine> Board<M> {
         table.close(place)
     }
 
-    /// Says whether the halt is up. It is, once any seat has raised it.
+    /// Says whether the halt is up. It is exactly where a seat has raised it.
     pub fn is_halted(&self, place: &mut Place<Seated<M>, Link>) -> bool
         requires table { place.old.seat.table_id ≡ self.now.table.table.shared.table_id }
         ensures table { place.new.seat.table_id ≡ place.old.seat.table_id }
@@ -134,6 +135,7 @@ impl<M: SavingMachine> Board<M> {
               place.old.seat.me.1,
             )) × (result ≡ true → number ≢ 0) × (result ≡ false → number ≡ 0) }
         ensures own { result ≡ false → place.old.seat.me.0.raised ≡ 0 }
+        ensures exact { FindsBoardHalt M.represents self.now.table.many place.old.seat.me result }
     {
         self.table.is_halted(place)
     }

@@ -1,13 +1,16 @@
 //! The coordinator's turn on a board.
-ghost use Rattle.std.specs.Prelude.{◌≡◌, ◌+◌, ◌*◌, ◌^◌, ◌<◌, ℕ, suc, List, OnOk};
+ghost use Rattle.std.specs.Prelude.{◌≡◌, ◌≢◌, ◌⊎◌, ◌+◌, ◌*◌, ◌^◌, ◌<◌, ℕ, suc, true, false, List, IfOk, OnOk};
 ghost use Rattle.link_tables.specs.Seats.{Rests};
+ghost use Rattle.wire_board.specs.Acts.{HasLed};
+ghost use Rattle.wire_board.specs.Directing.{HasLedOne};
 ghost use Rattle.wire_board.specs.Led.{Lead, link_no};
 ghost use Rattle.wire_board.specs.Seats.{Leads};
 ghost use Rattle.wire_board.specs.Sights.{HasLooked, Sees};
 
 use crate::boards::Board;
-use crate::passing::{Heard, Told};
+use crate::moving::{has_come, has_gone};
 use crate::standings::{Leading, Seated};
+use crate::turns::either;
 use cluster_step::clusters::{Due, Link, SavingMachine};
 use gl_base::{MachineNo, NoMemory, Refused};
 use link_tables::Place;
@@ -26,9 +29,10 @@ pub enum Directed {
 }
 
 impl<M: SavingMachine> Board<M> {
-    /// The coordinator's turn: it tells each machine a call, looks at the link from each and hears a
-    /// report, and does what is due. It puts a wave out only where nothing has moved. Where a record
-    /// is due, or the end, it does nothing of its own.
+    /// The coordinator's turn: it tells each machine a call, looks at the link from each and hears
+    /// a report, and does what is due. It puts a wave out only where nothing has moved. Where a
+    /// record is due, or the end, it does nothing of its own. `Moved` comes only where something
+    /// had moved before, or its seat has made an event.
     pub fn direct(
         &self,
         alloc: Global,
@@ -48,10 +52,13 @@ impl<M: SavingMachine> Board<M> {
             (from : ℕ) → from < lead.old.number →
             HasLooked place.old.seat.me place.new.seat.me
             (link_no (suc lead.old.number) from lead.old.number)) }
+        ensures led { IfOk result (λ how. how ≡ Directed.Moved → (moved ≡ true) ⊎ HasLedOne) }
     {
         let told = self.tell_calls(alloc, lead, place)?;
         let heard = self.hear_reports(alloc, lead, place);
-        self.lead(lead, place, moved || told || heard)
+        let passed = either(told, heard);
+        let any = either(moved, passed);
+        self.lead(lead, place, any)
     }
 
     /// Tells each machine a call that waits for it. Says whether one did.
@@ -70,13 +77,12 @@ impl<M: SavingMachine> Board<M> {
             Leads lead.new others place.new.seat.me }
         ensures number { lead.new.number ≡ lead.old.number }
         ensures sees { OnOk result (Sees place.old.seat.me place.new.seat.me) }
+        ensures led { IfOk result (λ moved. moved ≡ true → HasLedOne) }
     {
         let mut moved = false;
         for to in 0..lead.number {
             let how = self.tell_call(alloc, lead, place, MachineNo(to as u16))?;
-            if how != Told::Nothing {
-                moved = true;
-            }
+            moved = either(moved, has_gone(how));
         }
         Ok(moved)
     }
@@ -99,13 +105,12 @@ impl<M: SavingMachine> Board<M> {
         ensures looked { (from : ℕ) → from < lead.old.number →
             HasLooked place.old.seat.me place.new.seat.me
             (link_no (suc lead.old.number) from lead.old.number) }
+        ensures led { result ≡ true → HasLedOne }
     {
         let mut moved = false;
         for from in 0..lead.number {
             let how = self.hear_report(alloc, lead, place, MachineNo(from as u16));
-            if how == Heard::Applied {
-                moved = true;
-            }
+            moved = either(moved, has_come(how));
         }
         moved
     }
@@ -124,6 +129,8 @@ impl<M: SavingMachine> Board<M> {
             Leads lead.new others place.new.seat.me }
         ensures number { lead.new.number ≡ lead.old.number }
         ensures sees { Sees place.old.seat.me place.new.seat.me }
+        ensures led { IfOk result (λ how. how ≡ Directed.Moved → (moved ≡ true) ⊎
+            HasLed lead.old.coordinator lead.new.coordinator) }
     {
         let due = lead.coordinator.due();
         if matches!(due, Due::Record(_) | Due::Ended) {
@@ -152,6 +159,7 @@ impl<M: SavingMachine> Board<M> {
             Leads lead.new others place.new.seat.me }
         ensures number { lead.new.number ≡ lead.old.number }
         ensures sees { Sees place.old.seat.me place.new.seat.me }
+        ensures led { OnOk result (HasLed lead.old.coordinator lead.new.coordinator) }
     {
         match due {
             Due::Snapshot(_) => self.begin(lead, place),
@@ -170,5 +178,16 @@ impl<M: SavingMachine> Board<M> {
             Rests place.new.seat.me (Lead lead.now) others }
     {
         self.table.settle::<Brand, Leading>(place, lead);
+    }
+}
+
+/// Whether something moved in the turn.
+pub(crate) fn is_led(how: Directed) -> bool
+    ensures some { result ≡ true → how ≡ Directed.Moved }
+    ensures none { result ≡ false → how ≢ Directed.Moved }
+{
+    match how {
+        Directed::Moved => true,
+        Directed::Nothing | Directed::Ending => false,
     }
 }

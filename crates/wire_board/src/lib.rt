@@ -10,6 +10,7 @@ mod drawing;
 mod failing;
 mod hearing;
 mod leading;
+mod moving;
 mod passing;
 mod playing;
 mod reports;

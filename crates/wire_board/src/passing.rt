@@ -4,7 +4,7 @@ ghost use Rattle.link_tables.specs.Rule.{CarriesLink};
 ghost use Rattle.link_tables.specs.Seats.{HoldsLink, number_in, sight};
 ghost use Rattle.link_tables.specs.declared.words.LinkWord.{LinkWord};
 ghost use Rattle.link_tables.specs.declared.words.LinkWord.TheVariants.{Bare, Laden, Out};
-ghost use Rattle.coordinator.specs.machine_api.Promises.{HasHeard, HasNext, IsReporting, MayHearCall, OfEach};
+ghost use Rattle.coordinator.specs.machine_api.Promises.{HasHeard, HasNext, IsReporting, MayHearCall, OfEach, StandsStill};
 ghost use Rattle.wire.specs.declared.wire_msgs.messages.Message.{Message};
 ghost use Rattle.coordinator.specs.machine_api.Told.{message_read};
 ghost use Rattle.wire_board.specs.Freeing.{IsFree};
@@ -256,6 +256,8 @@ impl<M: SavingMachine> Board<M> {
             (IsReporting M.represents message member.new.machine)) }
         ensures nothing { IfOk result (λ how. how ≡ Told.Nothing →
             OfEach M.represents member.old.machine (λ st a m. HasNext m.out → ⊥)) }
+        ensures still { IfOk result (λ how. how ≡ Told.Nothing →
+            StandsStill M.represents member.old.machine member.new.machine) }
         ensures busy { IfOk result (λ how. how ≡ Told.Busy →
             (member.new.machine ≡ member.old.machine)
             × (word : LinkWord) × (word ≢ Bare) ×

@@ -1,18 +1,19 @@
 //! A board that is played step by step, on one thread.
-ghost use Rattle.std.specs.Prelude.{◌≡◌, ◌+◌, ◌*◌, ◌^◌, ◌<◌, ◌≤◌, ◌∷◌, ℕ, suc, List, [], length, IfOk, OnOk};
+ghost use Rattle.std.specs.Prelude.{◌≡◌, ◌+◌, ◌*◌, ◌^◌, ◌<◌, ◌≤◌, ◌∷◌, ℕ, suc, true, List, [], length, IfOk, OnOk};
 ghost use Rattle.cluster_step.specs.trace.Traces.{IsSameAttempt, TraceGoesOn};
 ghost use Rattle.link_tables.specs.Seats.{Rests};
+ghost use Rattle.wire_board.specs.Acts.{HasLed, HasMadeOne, HasMovedIf};
 ghost use Rattle.wire_board.specs.Attempts.{AllFrom, AreNumbered, IsBoardOf, IsSeatOf, resting};
 ghost use Rattle.wire_board.specs.Led.{Lead};
 ghost use Rattle.wire_board.specs.Seats.{Leads, Sits};
 
 use crate::attempts::{Attempt, TOO_MANY};
 use crate::boards::Board;
-use crate::directing::Directed;
+use crate::directing::is_led;
 use crate::failing::is_free;
-use crate::passing::{Heard, Told};
+use crate::moving::{has_come, has_gone};
 use crate::seats::{CoordSeat, NodeSeat};
-use crate::turns::Worked;
+use crate::turns::{either, is_made};
 use cluster_step::trace::Trace;
 use coordinator::machine_api::EagerMachine;
 use gl_base::{FailureAt, MachineNo, NoMemory};
@@ -49,9 +50,10 @@ pub enum NodeStep {
 }
 
 /// Makes these steps on a board with the cluster of a trace, on this thread, and says whether the
-/// last one moved anything. A step of a seat that is not there moves nothing, and no machine makes
-/// an update or hears a call behind the count of a failure. Where a machine has failed, the run has
-/// ended or there are too many machines, nothing happens. `NoMemory` drops the trace.
+/// last one moved anything: `true` comes only where a seat has made an event. A step of a seat that
+/// is not there moves nothing, and no machine makes an update or hears a call behind the count of a
+/// failure. Where a machine has failed, the run has ended or there are too many machines, nothing
+/// happens. `NoMemory` drops the trace.
 pub fn step_on_board<M: EagerMachine>(
     alloc: Global,
     trace: Trace<M>,
@@ -59,6 +61,8 @@ pub fn step_on_board<M: EagerMachine>(
 ) -> Result<(Trace<M>, bool), NoMemory>
     ensures same { IfOk result (λ t. IsSameAttempt (record trace { since = t.0.now }) t.0) }
     ensures goes_on { IfOk result (λ t. TraceGoesOn M.represents trace t.0) }
+    ensures moved { IfOk result (λ t. t.1 ≡ true →
+        HasMadeOne M.represents (suc (length trace.now.machines.items))) }
 {
     if trace.is_stopped() || !trace.are_all_awake() || trace.machines() >= TOO_MANY {
         let mut trace = trace;
@@ -103,6 +107,8 @@ impl<M: EagerMachine> Attempt<M> {
             length t.0.members.items ≡ length self.trace.now.machines.items) }
         ensures numbers { IfOk result (λ t.
             AreNumbered (suc (length self.trace.now.machines.items)) 0 t.0.members.items) }
+        ensures moved { IfOk result (λ t. t.1 ≡ true →
+            HasMadeOne M.represents (suc (length self.trace.now.machines.items))) }
     {
         let Attempt {
             trace,
@@ -166,12 +172,14 @@ impl<M: EagerMachine> Board<M> {
             IsSeatOf M.represents (suc (length seats.old.items))
             self.now.table.table.shared.key.about.done.value.items a seat.member
             seat.place.seat.me seat.before) 0 seats.new.items) }
+        ensures moved { IfOk result (λ moved. moved ≡ true →
+            HasMadeOne M.represents (suc (length seats.old.items))) }
     {
         let mut moved = false;
         for step in steps {
             let here = self.step_at(alloc, failures, seats, *step)?;
             let there = self.step_first(alloc, first, *step)?;
-            moved = here || there;
+            moved = either(here, there);
         }
         Ok(moved)
     }
@@ -200,6 +208,8 @@ impl<M: EagerMachine> Board<M> {
             IsSeatOf M.represents (suc (length seats.old.items))
             self.now.table.table.shared.key.about.done.value.items a seat.member
             seat.place.seat.me seat.before) 0 seats.new.items) }
+        ensures moved { IfOk result (λ moved. moved ≡ true →
+            HasMadeOne M.represents (suc (length seats.old.items))) }
     {
         let SeatStep::Node(at, what) = step else {
             return Ok(false);
@@ -231,22 +241,23 @@ impl<M: EagerMachine> Board<M> {
         ensures seat { OnOk result (IsSeatOf M.represents seat.old.member.peers
             self.now.table.table.shared.key.about.done.value.items seat.old.member.number
             seat.new.member seat.new.place.seat.me seat.new.before) }
+        ensures moved { IfOk result (λ moved.
+            HasMovedIf M.represents self.now.table.many seat.old.member.peers
+            seat.old.member.number seat.old.member.machine seat.old.place.seat.me
+            seat.new.member.machine seat.new.place.seat.me moved) }
     {
         let peers = seat.member.peers;
         match what {
             NodeStep::Hear(from) if (from.0 as usize) + 1 < peers => {
-                let how = self.hear(alloc, &mut seat.member, &mut seat.place, from)?;
-                Ok(how == Heard::Applied)
+                self.hear_some(alloc, &mut seat.member, &mut seat.place, from)
             }
             NodeStep::Tell(to) if (to.0 as usize) + 1 < peers => {
-                let how = self.tell(alloc, &mut seat.member, &mut seat.place, to)?;
-                Ok(how == Told::Moved)
+                self.tell_some(alloc, &mut seat.member, &mut seat.place, to)
             }
             NodeStep::Hear(_) | NodeStep::Tell(_) => Ok(false),
             NodeStep::Settle => self.settle(&mut seat.member, &seat.place),
             NodeStep::TellReport => {
-                let how = self.tell_report(alloc, &mut seat.member, &mut seat.place)?;
-                Ok(how == Told::Moved)
+                self.tell_report_if(alloc, &mut seat.member, &mut seat.place)
             }
             NodeStep::Work | NodeStep::HearCall => self.free_step_of(alloc, failures, seat, what),
         }
@@ -273,16 +284,19 @@ impl<M: EagerMachine> Board<M> {
         ensures seat { OnOk result (IsSeatOf M.represents seat.old.member.peers
             self.now.table.table.shared.key.about.done.value.items seat.old.member.number
             seat.new.member seat.new.place.seat.me seat.new.before) }
+        ensures moved { IfOk result (λ moved.
+            HasMovedIf M.represents self.now.table.many seat.old.member.peers
+            seat.old.member.number seat.old.member.machine seat.old.place.seat.me
+            seat.new.member.machine seat.new.place.seat.me moved) }
     {
         if !is_free(failures, &seat.member, seat.before) {
             return Ok(false);
         }
         if what == NodeStep::HearCall {
-            let how = self.hear_call(alloc, &mut seat.member, &mut seat.place)?;
-            return Ok(how == Heard::Applied);
+            return self.hear_call_if(alloc, &mut seat.member, &mut seat.place);
         }
-        let worked = self.work(&mut seat.member, &mut seat.place)?;
-        Ok(worked == Worked::Some)
+        let work = self.work(&mut seat.member, &mut seat.place)?;
+        Ok(is_made(work))
     }
 
     /// Where the step is the coordinator's, it makes the step, and puts a wave out where one is
@@ -301,20 +315,22 @@ impl<M: EagerMachine> Board<M> {
             (first.new.place.seat.table_id ≡ self.now.table.table.shared.table_id) }
         ensures number { OnOk result (first.new.lead.number ≡ first.old.lead.number) }
         ensures leads { OnOk result (Leads first.new.lead [] first.new.place.seat.me) }
+        ensures led { IfOk result (λ moved. moved ≡ true →
+            HasLed first.old.lead.coordinator first.new.lead.coordinator) }
     {
         let machines = first.lead.number;
         match step {
             SeatStep::TellCall(to) if (to.0 as usize) < machines => {
                 let how = self.tell_call(alloc, &mut first.lead, &mut first.place, to)?;
-                Ok(how == Told::Moved)
+                Ok(has_gone(how))
             }
             SeatStep::HearReport(from) if (from.0 as usize) < machines => {
                 let how = self.hear_report(alloc, &mut first.lead, &mut first.place, from);
-                Ok(how == Heard::Applied)
+                Ok(has_come(how))
             }
             SeatStep::Lead => {
                 let how = self.lead(&mut first.lead, &mut first.place, false)?;
-                Ok(how == Directed::Moved)
+                Ok(is_led(how))
             }
             _ => Ok(false),
         }

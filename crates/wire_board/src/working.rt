@@ -1,12 +1,16 @@
 //! What a machine does by itself.
-ghost use Rattle.std.specs.Prelude.{◌≡◌};
+ghost use Rattle.std.specs.Prelude.{◌≡◌, true, false, IfOk, IsErr, IsOk};
+ghost use Rattle.wire_board.specs.Acts.{MovesAlone};
 ghost use Rattle.wire_board.specs.Standings.{ComesOn};
 
 use cluster_step::clusters::SavingMachine;
 use gl_base::{NoMemory, Refused};
 
 /// Whether it was done.
-fn was_done(came: Result<(), Refused>) -> Result<bool, NoMemory> {
+fn was_done(came: Result<(), Refused>) -> Result<bool, NoMemory>
+    ensures done { IfOk result (λ some. some ≡ true → IsOk came) }
+    ensures not_now { IfOk result (λ some. some ≡ false → IsErr came) }
+{
     match came {
         Ok(()) => Ok(true),
         Err(Refused::NotNow) => Ok(false),
@@ -17,7 +21,8 @@ fn was_done(came: Result<(), Refused>) -> Result<bool, NoMemory> {
 /// Grants a lock, or else makes a snapshot update, or else puts the section out. Says whether there
 /// was one.
 fn go_on<M: SavingMachine>(machine: &mut M) -> Result<bool, NoMemory>
-    ensures { ComesOn M.represents machine.old machine.new }
+    ensures comes { ComesOn M.represents machine.old machine.new }
+    ensures moved { IfOk result (MovesAlone M.represents machine.old machine.new) }
 {
     if let Some(x) = machine.next_grant() {
         return was_done(machine.grant(x));
@@ -31,19 +36,23 @@ fn go_on<M: SavingMachine>(machine: &mut M) -> Result<bool, NoMemory>
 /// Does all that may be done without a ticket and without a message. Says whether there was
 /// something.
 pub(crate) fn settle_all<M: SavingMachine>(machine: &mut M) -> Result<bool, NoMemory>
-    ensures { ComesOn M.represents machine.old machine.new }
+    ensures comes { ComesOn M.represents machine.old machine.new }
+    ensures moved { IfOk result (MovesAlone M.represents machine.old machine.new) }
 {
-    for times in 0..u64::MAX {
+    let mut some = false;
+    for _ in 0..u64::MAX {
         if !go_on(machine)? {
-            return Ok(times > 0);
+            return Ok(some);
         }
+        some = true;
     }
-    Ok(true)
+    Ok(some)
 }
 
 /// Admits a scope. Says whether one was.
 pub(crate) fn admit_one<M: SavingMachine>(machine: &mut M) -> Result<bool, NoMemory>
-    ensures { ComesOn M.represents machine.old machine.new }
+    ensures comes { ComesOn M.represents machine.old machine.new }
+    ensures moved { IfOk result (MovesAlone M.represents machine.old machine.new) }
 {
     was_done(machine.admit())
 }

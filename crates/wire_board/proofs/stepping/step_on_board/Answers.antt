@@ -1,3 +1,4 @@
+use Rattle.wire_board.specs.Acts.{HasMadeOne}
 use Rattle.std.proofs.Common.{ap, length, subst, suc, sym, ◌∙◌, ℕ}
 use Rattle.cluster_step.specs.trace.Traces.{TraceGoesOn}
 use Rattle.wire_board.proofs.Attempting.{goes_apart, goes_nowhere, length_members, members_numbered}
@@ -23,3 +24,7 @@ returns-clause-goes_on g c =
     let represents = g.M.SavingMachine.represents in
     goes_apart represents c.args.trace c.in_ok-trace.trace
     (subst (λ x. TraceGoesOn represents x c.in_ok-trace.trace) (c.in_ok-attempt-2.ensures.trace ∙ c.in_ok-attempt.ensures.trace) c.in_ok-trace.ensures.goes_on)
+
+pub returns-clause-moved : goal.returns-clause-moved
+returns-clause-moved g c =
+    λ e. subst (λ (n : ℕ). HasMadeOne g.M.SavingMachine.represents (suc n)) (ap (λ x. length x.now.machines.items) c.in_ok-attempt.ensures.trace) (c.in_ok-attempt-2.ensures.moved e)

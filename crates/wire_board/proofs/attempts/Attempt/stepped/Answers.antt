@@ -1,3 +1,4 @@
+use Rattle.wire_board.specs.Acts.{HasMadeOne}
 use Rattle.std.proofs.Common.{List, [], arith, length, refl, subst, suc, sym, ◌+◌, ◌∙◌, ◌≡◌, ℕ}
 use Rattle.wire_board.proofs.Attempting.{all_map}
 use Rattle.wire_board.specs.Attempts.{AllFrom, AreNumbered, IsSeatOf}
@@ -35,3 +36,7 @@ returns-clause-numbers g c =
     let many = c.requires.many in
     let peers : c.len-peers.result + 1 ≡ suc (length c.args.self.trace.now.machines.items) = omega (arith, many, len) in
     subst (λ (k : ℕ). AreNumbered k 0 c.in_ok-members.members.items) peers c.in_ok-members.ensures.numbers
+
+pub returns-clause-moved : goal.returns-clause-moved
+returns-clause-moved g c =
+    λ e. subst (λ (n : ℕ). HasMadeOne g.M.SavingMachine.represents (suc n)) (c.in_ok-seats.ensures.many ∙ c.requires.many) (c.in_ok-moved.ensures.moved e)

@@ -1,4 +1,5 @@
 use Rattle.std.proofs.Common.{false, ℕ, ◌<◌, ◌≡◌}
+use Rattle.wire_board.specs.Acts.{HasMovedIf}
 use Rattle.wire_board.specs.Led.{link_no}
 use Rattle.wire_board.specs.Seats.{Sits}
 use Rattle.wire_board.specs.Sights.{FoundNothing, HasLooked, Sees}
@@ -12,4 +13,5 @@ invariant-loop-from g l = record {
   sees : Sees l.fn.place.seat.me l.place.seat.me;
   looked : (k : ℕ) → k < l.from → HasLooked l.fn.place.seat.me l.place.seat.me (link_no l.fn.member.peers k l.fn.member.number);
   nothing : l.moved ≡ false → (k : ℕ) → k < l.from → FoundNothing l.fn.place.seat.me l.place.seat.me (link_no l.fn.member.peers k l.fn.member.number);
+  moved : HasMovedIf g.M.SavingMachine.represents l.self.table.many l.fn.member.peers l.fn.member.number l.fn.member.machine l.fn.place.seat.me l.member.machine l.place.seat.me l.moved;
 }

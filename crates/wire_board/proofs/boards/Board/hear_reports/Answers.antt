@@ -1,4 +1,5 @@
-use Rattle.std.proofs.Common.{arith, refl, subst, suc, ◌∙◌, ℕ}
+use Rattle.wire_board.specs.Acts.{HearsReport}
+use Rattle.std.proofs.Common.{arith, false, refl, subst, suc, true, ◌∙◌, ◌≡◌, ⊎_elim, ℕ}
 use borrow.Author.Count.{below_more, below_none}
 use Rattle.link_tables.proofs.Seeing.{sees_same, sees_then}
 use Rattle.wire_board.proofs.Sighting.{looked_sees, looked_then, then_looked}
@@ -8,7 +9,7 @@ use Rattle.wire_board.proofs.boards.Board.hear_reports.Goals as goal
 
 pub loop-from-init : goal.loop-from-init
 loop-from-init g c =
-    record { table = c.requires.table; sits = λ others s. s; same = refl; sees = sees_same c.args.place.now.seat.me c.args.place.now.seat.me refl; looked = below_none _ }
+    record { table = c.requires.table; sits = λ others s. s; same = refl; sees = sees_same c.args.place.now.seat.me c.args.place.now.seat.me refl; looked = below_none _; led = λ e. let bad : false ≡ true = e in absurd (cc) }
 
 pub loop-from-preserved : goal.loop-from-preserved
 loop-from-preserved g c =
@@ -29,6 +30,10 @@ loop-from-preserved g c =
       looked = below_more (λ k. HasLooked first new (link_no (suc lead.number) k lead.number)) at
           (λ k low. looked_then first old new (link_no (suc lead.number) k lead.number) (i.looked k low) sees)
           (then_looked first old new (link_no (suc lead.number) at lead.number) i.sees looked);
+      led = λ e.
+          ⊎_elim i.led
+          (λ come. let e = c.hear_report-how.ensures.applied (c.has_come.ensures.some come) in (here.coordinator, c.hear_report-how.new.lead.coordinator, (HearsReport at e.0, (e.1, e.2))))
+          (c.either-moved.ensures.some e);
     }
 
 pub returns-clause-looked : goal.returns-clause-looked

@@ -1,4 +1,5 @@
-use Rattle.std.proofs.Common.{subst, suc, sym, ◌∙◌, ℕ}
+use Rattle.wire_board.specs.Acts.{HasMadeOne}
+use Rattle.std.proofs.Common.{inr, subst, suc, sym, ◌∙◌, ⊎_elim, ℕ}
 use Rattle.wire_board.specs.Attempts.{AllFrom, IsSeatOf}
 use Rattle.wire_board.proofs.boards.Board.make_steps.Goals as goal
 
@@ -14,4 +15,8 @@ loop-step-preserved g c = let i = c.loop-step.invariant in record {
   many = c.in_ok-here.ensures.many ∙ i.many;
   tables = c.in_ok-here.ensures.tables;
   seats = subst (λ (n : ℕ). AllFrom (λ a seat. IsSeatOf g.M.SavingMachine.represents (suc n) c.args.self.now.table.table.shared.key.about.done.value.items a seat.member seat.place.seat.me seat.before) 0 c.step_at.new.seats.items) i.many c.in_ok-here.ensures.seats;
+  moved = λ e.
+      let represents = g.M.SavingMachine.represents in
+      ⊎_elim (λ here. subst (λ (n : ℕ). HasMadeOne represents (suc n)) i.many (c.in_ok-here.ensures.moved here)) (λ there. inr (c.loop-step.first.lead.coordinator, c.step_first.new.first.lead.coordinator, c.in_ok-there.ensures.led there))
+      (c.either-moved.ensures.some e);
 }

@@ -23,3 +23,8 @@ loop-preserved g c =
       tables = c.in_ok-moved.ensures.tables;
       seats = subst (λ (n : ℕ). AllFrom (λ a seat. IsSeatOf g.M.SavingMachine.represents (suc n) c.args.self.now.table.table.shared.key.about.done.value.items a seat.member seat.place.seat.me seat.before) 0 c.turns.new.seats.items) c.loop.invariant.many c.in_ok-moved.ensures.seats;
     }
+
+pub returns-then-is_halted-clause-leads : goal.returns-then-is_halted-clause-leads
+returns-then-is_halted-clause-leads g c =
+    let found = c.is_halted.ensures.found in
+    leads_read c.direct_first.new.first.lead [] c.direct_first.new.first.place.seat.me c.is_halted.new.place.seat.me (word_at (c.args.self.now.table.many + 1)) found.0 c.in_ok-direct_first.ensures.leads found.1

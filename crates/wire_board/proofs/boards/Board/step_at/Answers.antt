@@ -1,7 +1,9 @@
-use Rattle.std.proofs.Common.{length, length-set, rules, subst, suc, sym, ◌*◌, ◌+◌, ◌<◌, ◌^◌, ◌∙◌, ◌≡◌, ℕ}
+use Rattle.wire_board.proofs.Acting.{one_moved}
+use Rattle.wire_board.specs.Acts.{HasMadeOne}
+use Rattle.std.proofs.Common.{ap, length, length-set, rules, subst, suc, sym, ◌*◌, ◌+◌, ◌<◌, ◌^◌, ◌∙◌, ◌≡◌, ℕ}
 use Rattle.std.proofs.lemmas.List.{get_or_read}
 use Rattle.wire_board.proofs.Attempting.{all_at, all_set, own_seat, seat_again}
-use Rattle.wire_board.proofs.Sighting.{on_ok_to}
+use Rattle.wire_board.proofs.Sighting.{if_ok_to, on_ok_to}
 use Rattle.wire_board.specs.Attempts.{IsSeatOf}
 use Rattle.wire_board.specs.declared.seats.NodeSeat.{NodeSeat}
 use Rattle.wire_board.proofs.boards.Board.step_at.Goals as goal
@@ -58,4 +60,8 @@ returns g c =
       tables = on_ok_to c.step_of.result (λ t. all_set (λ a seat. seat.place.seat.table_id ≡ c.args.self.now.table.table.shared.table_id) 0 seats a new c.requires.tables t) c.step_of.ensures.table;
       seats = on_ok_to c.step_of.result (λ t. all_set (λ a seat. IsSeatOf represents peers done a seat.member seat.place.seat.me seat.before) 0 seats a new c.requires.seats
           (seat_again represents done new.place.seat.me new.before peers (0 + a) x.member.number x.member.peers new.member s.number s.peers_are t)) c.step_of.ensures.seat;
+      moved = if_ok_to c.step_of.result _ _
+          (λ some moved is. subst (HasMadeOne represents) s.peers_are
+          (one_moved represents c.args.self.now.table.many x.member.peers x.member.number x.member.machine new.member.machine x.place.seat.me new.place.seat.me some
+          (sym c.requires.links.0 ∙ ap (λ (k : ℕ). k * k) (sym s.peers_are)) moved is)) c.step_of.ensures.moved;
     }

@@ -1,6 +1,6 @@
 use Rattle.std.proofs.Common.{subst}
 use Rattle.link_tables.proofs.Seeing.{seen_one, sees_one, sees_then, then_seen}
-use Rattle.link_tables.specs.declared.words.LinkWord.TheVariants.{Bare, Out}
+use Rattle.link_tables.specs.declared.words.LinkWord.TheVariants.{Out}
 use Rattle.link_tables.specs.declared.words.LinkWord.{LinkWord}
 use Rattle.wire_board.specs.Sights.{FoundWord}
 use Rattle.wire_board.proofs.boards.Board.take_home.Goals as goal

@@ -1,4 +1,5 @@
 use Rattle.std.proofs.Common.{◌≡◌}
+use Rattle.wire_board.specs.Acts.{HasMovedIf}
 use Rattle.wire_board.specs.Seats.{Sits}
 use Rattle.wire_board.specs.Sights.{Sees}
 use Rattle.wire_board.proofs.boards.Board.tell_each.Given as goal
@@ -9,4 +10,5 @@ invariant-loop-to g l = record {
   sits : Sits g.M.SavingMachine.represents l.member l.place.seat.me;
   same : (l.member.number ≡ l.fn.member.number) × (l.member.peers ≡ l.fn.member.peers);
   sees : Sees l.fn.place.seat.me l.place.seat.me;
+  moved : HasMovedIf g.M.SavingMachine.represents l.self.table.many l.fn.member.peers l.fn.member.number l.fn.member.machine l.fn.place.seat.me l.member.machine l.place.seat.me l.moved;
 }
