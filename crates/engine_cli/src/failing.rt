@@ -18,10 +18,11 @@ use graph_atoms::atom_gather::Cut;
 use graph_core::Graph;
 use std::alloc::Global;
 use std::sync::Wait;
+use std::thread::Threads;
 
 /// Runs the job's algorithm on the graph, which is cut so, without a store. A machine that fails
 /// takes all back to the start.
-pub fn run_without_store<R: Wait>(
+pub fn run_without_store<R: Threads + Wait + Sync>(
     rt: &R,
     alloc: Global,
     graph: &Graph,

@@ -25,6 +25,7 @@ use job_io::job_files::{Input, JobVerb, read_run_input};
 use job_io::job_stores::StoreError;
 use std::alloc::Global;
 use std::sync::Wait;
+use std::thread::Threads;
 
 /// What is asked of a run: by which verb, of the job in which file, and whether its answer is
 /// reported.
@@ -52,7 +53,7 @@ pub struct Prepared {
 
 /// Reads the job and its graph, runs the job's algorithm, from the job's store and into it where it
 /// names one, and writes the order of its updates and the numbers of the vertices.
-pub fn run_job<R: Wait, F: Files, K: Sink>(
+pub fn run_job<R: Threads + Wait + Sync, F: Files, K: Sink>(
     rt: &R,
     alloc: Global,
     asked: &RunAsked<'_>,
@@ -84,7 +85,7 @@ pub fn run_job<R: Wait, F: Files, K: Sink>(
 }
 
 /// Reads the job and its graph, and runs the job's algorithm.
-fn prepare<R: Wait, F: Files>(
+fn prepare<R: Threads + Wait + Sync, F: Files>(
     rt: &R,
     alloc: Global,
     asked: JobVerb,
@@ -116,7 +117,7 @@ fn prepare<R: Wait, F: Files>(
 }
 
 /// Runs the job's algorithm: pairs as a whole, and every other one by scopes.
-fn run_input<R: Wait, F: Files>(
+fn run_input<R: Threads + Wait + Sync, F: Files>(
     rt: &R,
     alloc: Global,
     asked: JobVerb,
@@ -145,7 +146,7 @@ fn run_input<R: Wait, F: Files>(
 }
 
 /// Runs the job's algorithm, on its store where the job names one.
-fn run_by_scopes<R: Wait, F: Files>(
+fn run_by_scopes<R: Threads + Wait + Sync, F: Files>(
     rt: &R,
     alloc: Global,
     asked: JobVerb,

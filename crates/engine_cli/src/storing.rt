@@ -21,6 +21,7 @@ use job_io::job_files::Input;
 use job_io::job_stores::{StoreError, header_of};
 use std::alloc::Global;
 use std::sync::Wait;
+use std::thread::Threads;
 use store::snap_journal::{Journal, JournalFault};
 use store::store_format::StoreFault;
 use update_api::Program;
@@ -29,7 +30,7 @@ use update_api::Program;
 /// it. `BadStore` comes where its bytes are none of a store for this job and graph, and, unless the
 /// run is resumed, by `Used` where it has snapshots. A store in form that no call leaves may be
 /// refused too, at the byte where it ends.
-pub fn run_on_store<R: Wait, F: Files>(
+pub fn run_on_store<R: Threads + Wait + Sync, F: Files>(
     rt: &R,
     alloc: Global,
     files: &mut F,
@@ -65,7 +66,7 @@ pub fn run_on_store<R: Wait, F: Files>(
 
 /// Opens the store on a disk, and runs the job's algorithm from it and into it. `made` gets the run
 /// or why there is none, and the disk is handed back.
-fn run_on_disk<R: Wait, D: Disk>(
+fn run_on_disk<R: Threads + Wait + Sync, D: Disk>(
     rt: &R,
     alloc: Global,
     disk: D,
@@ -101,7 +102,7 @@ fn run_on_disk<R: Wait, D: Disk>(
 
 /// Runs the job's algorithm from an opened store and into it, which has no snapshots unless the run
 /// is resumed.
-fn run_on_journal<R: Wait, D: Disk>(
+fn run_on_journal<R: Threads + Wait + Sync, D: Disk>(
     rt: &R,
     alloc: Global,
     input: &Input,
@@ -144,7 +145,7 @@ fn run_on_journal<R: Wait, D: Disk>(
 
 /// Runs a program on the job's graph from an opened store and into it, by the numbers of the job
 /// and its failures, with snapshots as its window asks, and one of the end.
-fn run_stored_by<R: Wait, D: Disk, P: Program>(
+fn run_stored_by<R: Threads + Wait + Sync, D: Disk, P: Program + Send + Sync>(
     rt: &R,
     alloc: Global,
     input: &Input,

@@ -23,6 +23,7 @@ use job_io::job_files::JobVerb;
 use job_io::job_words::{Words, WordsReading, read_words};
 use std::alloc::Global;
 use std::sync::Wait;
+use std::thread::Threads;
 
 /// Does what the words after the program's name ask.
 ///
@@ -46,7 +47,7 @@ use std::sync::Wait;
 /// The lists tell of the run where one was made: at `Done`, `WriteFault`, `BudgetSpent`,
 /// `SnapshotsFull`, and at `DiskFault` where that came in the run. Else they are empty. A run on
 /// several machines goes on until its end is seen, and no clause says that it is.
-pub fn engine<R: Wait, F: Files, K: Sink, N: Sink, G: Gate + Sync>(
+pub fn engine<R: Threads + Wait + Sync, F: Files, K: Sink, N: Sink, G: Gate + Sync>(
     rt: &R,
     alloc: Global,
     words: &[String],
@@ -94,7 +95,7 @@ pub fn engine<R: Wait, F: Files, K: Sink, N: Sink, G: Gate + Sync>(
 }
 
 /// Does what the command line asks.
-fn do_command<R: Wait, F: Files, K: Sink, N: Sink>(
+fn do_command<R: Threads + Wait + Sync, F: Files, K: Sink, N: Sink>(
     rt: &R,
     alloc: Global,
     asked: &Words,
@@ -142,7 +143,7 @@ fn do_command<R: Wait, F: Files, K: Sink, N: Sink>(
 }
 
 /// Runs the job in a file, and tells what is reported of it or why it was refused.
-fn run_file<R: Wait, F: Files, K: Sink, N: Sink>(
+fn run_file<R: Threads + Wait + Sync, F: Files, K: Sink, N: Sink>(
     rt: &R,
     alloc: Global,
     asked: &RunAsked<'_>,

@@ -12,3 +12,4 @@ pub mod Playing
 pub mod Bounds
 pub mod Sizes
 pub mod Refusing
+pub mod OnThreads

@@ -101,6 +101,12 @@ KeepsCall meaning past g program call journal later after =
     (start : List (List ℕ)) (first : DiskPast) (st : Setting) (o : CallOpening) → IsRunAt g program call.places st →
     IsCallAt meaning past call journal start first st o → IsCallAt meaning past later after start first st o
 
+-- The call has gone on to somewhere, of which nothing may be left: where what the disk holds can be told, the journal kept up with it.
+pub record HasGoneOn {D P : Type 0} (meaning : P → Update) (past : D → DiskPast) (told : Type 0) (g : DataGraph) (program : Update) (call : StoredCall P) (journal after : JournalState D) : Type 0 where
+  pub later : StoredCall P
+  pub same : IsSameCall call later
+  pub keeps : told → KeepsCall meaning past g program call journal later after
+
 -- and it has ended so
 abbrev pub EndsCall : {D P : Type 0} → (P → Update) → (D → DiskPast) → DataGraph → Update → StoredCall P → JournalState D → StoredCall P → JournalState D → StoredEnd → Type 0
 EndsCall meaning past g program call journal later after how =

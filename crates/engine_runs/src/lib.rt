@@ -14,6 +14,7 @@ mod running;
 pub mod start;
 mod steps;
 pub mod stores;
+mod threads;
 mod unstored;
 
 pub use running::run_stored;

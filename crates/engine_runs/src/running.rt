@@ -25,6 +25,7 @@ use gl_outside::Disk;
 use graph_core::Graph;
 use std::alloc::Global;
 use std::sync::Wait;
+use std::thread::Threads;
 use store::snap_journal::{Journal, JournalFault};
 use store::store_format::StoreFault;
 use update_api::Program;
@@ -37,7 +38,7 @@ use update_api::Program;
 ///
 /// The run ends finished, at its budget, at a store that is full, or at a fault of the disk while
 /// it goes on. `DiskFault` comes where the disk failed before the run began.
-pub fn run_stored<R: Wait, D: Disk, P: Program>(
+pub fn run_stored<R: Threads + Wait + Sync, D: Disk, P: Program + Send + Sync>(
     rt: &R,
     alloc: Global,
     input: &RunInput<'_>,
@@ -130,16 +131,14 @@ pub fn run_stored<R: Wait, D: Disk, P: Program>(
     ensures same { D.same journal.old.disk journal.new.disk }
     ensures later { D.faults journal.old.disk ≤ D.faults journal.new.disk }
 {
-    let mut call = begin(alloc, input, program, journal, resumed)?;
-    match play_to_end(rt, alloc, input.graph, program, &mut call, journal) {
-        Ok(end) => {
+    let call = begin(alloc, input, program, journal, resumed)?;
+    match play_to_end(rt, alloc, input.graph, program, call, journal) {
+        Ok(ended) => {
+            let (call, end) = ended;
             let long = journal.length();
             gathered(alloc, input.graph, input.failures, call, end, long)
         }
-        Err(why) => {
-            drop(call);
-            Err(why)
-        }
+        Err(why) => Err(why),
     }
 }
 

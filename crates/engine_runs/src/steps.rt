@@ -1,50 +1,60 @@
 //! A call goes on, pause by pause, until it ends.
 ghost use Rattle.std.specs.Prelude.{List, None, false, ◌≡◌, ◌≤◌, ◌^◌, ℕ, IfErr, IfOk, IfSome, IsTrue};
-ghost use Rattle.engine_runs.specs.Calls.{CallOpening, CanCallGoOn, EndsBy, EndsCall, Header, IsAnyMachineOf, IsKnownAt, IsNotRefused, IsRunAt, IsSameCall, StoppedRunErrorCause, KeepsCall, PauseMeaning, Setting};
+ghost use Rattle.engine_runs.specs.Calls.{CallOpening, CanCallGoOn, EndsBy, EndsCall, HasGoneOn, Header, IsAnyMachineOf, IsKnownAt, IsNotRefused, IsRunAt, IsSameCall, StoppedRunErrorCause, KeepsCall, PauseMeaning, Setting};
 
 use crate::answers::StoredEnd;
 use crate::calls::StoredCall;
 use crate::finish::task_left;
 use crate::pauses::{go_back_from, save_due};
+use crate::threads::go_on_threads;
 use cluster_step::drive::{Pause, drive};
 use gl_base::NoMemory;
 use gl_outside::Disk;
 use graph_core::Graph;
 use std::alloc::Global;
 use std::sync::Wait;
+use std::thread::Threads;
 use store::snap_journal::{Journal, JournalFault};
 use update_api::Program;
 
-/// Goes on until the run ends.
-pub(crate) fn play_to_end<R: Wait, D: Disk, P: Program>(
+/// Goes on until the run ends: on threads, and then to the next pause, again and again. Returns the
+/// call as it ended. An error drops the call.
+pub(crate) fn play_to_end<R: Threads + Wait + Sync, D: Disk, P: Program + Send + Sync>(
     rt: &R,
     alloc: Global,
     graph: &Graph,
     program: P,
-    call: &mut StoredCall<P>,
+    call: StoredCall<P>,
     journal: &mut Journal<D>,
-) -> Result<StoredEnd, JournalFault>
-    requires can { CanCallGoOn graph.now call.old journal.old }
-    ensures keeps { IsTrue D.observable →
-        KeepsCall P.meaning D.past graph.now (P.meaning program) call.old
-        journal.old call.new journal.new }
+) -> Result<(StoredCall<P>, StoredEnd), JournalFault>
+    requires can { CanCallGoOn graph.now call journal.old }
+    ensures keeps { IfErr result (λ why.
+        HasGoneOn P.meaning D.past (IsTrue D.observable) graph.now (P.meaning program) call
+        journal.old journal.new) }
     ensures ends { IsTrue D.observable →
-        IfOk result (EndsCall P.meaning D.past graph.now (P.meaning program) call.old
-        journal.old call.new journal.new) }
-    ensures by { IfOk result
-        (EndsBy journal.new (D.faults journal.old.disk) (D.faults journal.new.disk)) }
+        IfOk result (λ ended. EndsCall P.meaning D.past graph.now (P.meaning program) call
+        journal.old ended.0 journal.new ended.1) }
+    ensures by { IfOk result (λ ended.
+        EndsBy journal.new (D.faults journal.old.disk) (D.faults journal.new.disk) ended.1) }
     ensures refused { IfErr result StoppedRunErrorCause }
     ensures good { IsTrue D.observable → (st : Setting) →
-        IsRunAt graph.now (P.meaning program) call.old.places st →
-        IsNotRefused P.meaning D.past call.old journal.old st result }
-    ensures call { IsSameCall call.old call.new }
+        IsRunAt graph.now (P.meaning program) call.places st →
+        IsNotRefused P.meaning D.past call journal.old st result }
+    ensures call { IfOk result (λ ended. IsSameCall call ended.0) }
     ensures header { journal.new.header ≡ journal.old.header }
     ensures same { D.same journal.old.disk journal.new.disk }
     ensures later { D.faults journal.old.disk ≤ D.faults journal.new.disk }
 {
+    let mut call = call;
     for _ in rt.forever() {
-        if let Some(end) = step(rt, alloc, graph, program, call, journal)? {
-            return Ok(end);
+        let mut on = go_on_threads(rt, alloc, call)?;
+        match step(rt, alloc, graph, program, &mut on, journal) {
+            Ok(None) => call = on,
+            Ok(Some(end)) => return Ok((on, end)),
+            Err(why) => {
+                drop(on);
+                return Err(why);
+            }
         }
     }
     unreachable!()

@@ -4,6 +4,7 @@ use engine_cli::{Ended, engine};
 use gl_outside::{MemFiles, MemSink, OpenGate};
 use std::alloc::Global;
 use std::sync::Wait;
+use std::thread::Threads;
 
 /// As many words as the engine does not take.
 const TOO_MANY_WORDS: usize = 4294967295;
@@ -18,7 +19,12 @@ pub struct Left {
 }
 
 /// Makes a call.
-pub fn make_call<R: Wait>(rt: &R, alloc: Global, stage: &Stage<'_>, words: &[String]) -> Left {
+pub fn make_call<R: Threads + Wait + Sync>(
+    rt: &R,
+    alloc: Global,
+    stage: &Stage<'_>,
+    words: &[String],
+) -> Left {
     let words = if words.len() < TOO_MANY_WORDS {
         words
     } else {

@@ -15,6 +15,7 @@ mod steps;
 mod stores;
 mod told;
 mod turns;
+mod updates;
 mod words;
 
 use playing::play_file;

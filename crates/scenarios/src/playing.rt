@@ -10,10 +10,14 @@ use scenario_lines::{Line, Page, is_given, parts_of};
 use std::alloc::Global;
 use std::rt::Files;
 use std::sync::Wait;
+use std::thread::Threads;
 use std::{fs, io};
 
 /// Plays the scenarios of a file, and prints them.
-pub fn play_file<R: Files + Print + AllocGlobal + Wait>(rt: &R, file: &str) -> io::Result<()> {
+pub fn play_file<R: Files + Print + AllocGlobal + Threads + Wait + Sync>(
+    rt: &R,
+    file: &str,
+) -> io::Result<()> {
     let text = fs::read_to_string(rt, file)?;
     let parts = parts_of(rt.alloc(), text.as_str())?;
     let mut page = Page::new(rt.alloc());
@@ -22,7 +26,12 @@ pub fn play_file<R: Files + Print + AllocGlobal + Wait>(rt: &R, file: &str) -> i
 }
 
 /// Plays the parts of a file. What is given is read again for each scenario behind it.
-fn play_parts<R: Wait>(rt: &R, alloc: Global, parts: &[Vec<&str>], page: &mut Page) {
+fn play_parts<R: Threads + Wait + Sync>(
+    rt: &R,
+    alloc: Global,
+    parts: &[Vec<&str>],
+    page: &mut Page,
+) {
     let mut last = 0;
     for (place, part) in parts.iter().enumerate() {
         if is_given(part) {
@@ -35,14 +44,20 @@ fn play_parts<R: Wait>(rt: &R, alloc: Global, parts: &[Vec<&str>], page: &mut Pa
 }
 
 /// Plays a part over the files and disks that are given.
-fn play_part<R: Wait>(rt: &R, alloc: Global, given: &[&str], part: &[&str], page: &mut Page) {
+fn play_part<R: Threads + Wait + Sync>(
+    rt: &R,
+    alloc: Global,
+    given: &[&str],
+    part: &[&str],
+    page: &mut Page,
+) {
     let given = sections_of(alloc, &*given);
     let sections = sections_of(alloc, &*part);
     play_over(rt, alloc, &given, &sections, page);
 }
 
 /// Plays the sections of a part over those that are given.
-fn play_over<'a, R: Wait>(
+fn play_over<'a, R: Threads + Wait + Sync>(
     rt: &R,
     alloc: Global,
     given: &'a [Section<'a>],
@@ -57,7 +72,7 @@ fn play_over<'a, R: Wait>(
 }
 
 /// Plays the sections of a part in turn.
-fn play_sections<'a, R: Wait>(
+fn play_sections<'a, R: Threads + Wait + Sync>(
     rt: &R,
     alloc: Global,
     sections: &'a [Section<'a>],
@@ -96,7 +111,7 @@ fn prepare<'a>(alloc: Global, section: &Section<'a>, stage: &mut Stage<'a>, page
 }
 
 /// Plays a step: a call, and the calls before it in which one call fails in turn.
-fn play_step<'a, R: Wait>(
+fn play_step<'a, R: Threads + Wait + Sync>(
     rt: &R,
     alloc: Global,
     step: &Step<'a>,
@@ -133,7 +148,7 @@ fn name_all<'a>(stage: &mut Stage<'a>, block: &[Section<'a>]) {
 }
 
 /// Makes the call of a step, adds what it left, and returns the files and disks that it left.
-fn play_call<'a, R: Wait>(
+fn play_call<'a, R: Threads + Wait + Sync>(
     rt: &R,
     alloc: Global,
     step: &Step<'a>,

@@ -2,7 +2,7 @@
 use crate::calling::{Left, is_kept};
 use crate::sections::Section;
 use crate::stage::Held;
-use crate::told::{LINES, TEXTS, add_line, text_left};
+use crate::told::{LINES, TEXTS, add_line, is_within, text_left};
 use scenario_lines::{Page, is_remark, word_of};
 use std::alloc::Global;
 
@@ -31,7 +31,7 @@ pub fn add_left(
     left: &Left,
 ) {
     for section in block {
-        if section.is_any() {
+        if section.is_any() || is_within(alloc, section, &left.ended) {
             echo(page, section);
         } else {
             add_section(alloc, page, section, left);

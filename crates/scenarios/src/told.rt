@@ -1,8 +1,10 @@
 //! What a call tells of each part but files and disks.
 use crate::calling::Left;
 use crate::entries::add_entries;
+use crate::sections::Section;
+use crate::updates::is_each;
 use engine_cli::Ended;
-use scenario_lines::Page;
+use scenario_lines::{Page, number_of, word_of, words_behind};
 use std::alloc::Global;
 
 /// The parts that are told in one line, by their words.
@@ -22,6 +24,42 @@ pub fn add_line(alloc: Global, page: &mut Page, word: &str, ended: &Ended) {
         "fired" => add_fired(page, &ended.fired),
         _ => {}
     }
+}
+
+/// Returns whether a section that does not tell all of a part is right of it: a cause by its name
+/// alone, the most updates that all machines together may have made or lost, or the updates of an
+/// order.
+pub fn is_within(alloc: Global, section: &Section<'_>, ended: &Ended) -> bool {
+    match section.keyword {
+        "cause" => is_named(alloc, section.said, ended),
+        "done" => is_at_most(section.said, sum_of(&ended.done)),
+        "lost" => is_at_most(section.said, ended.lost.len() as u64),
+        "order" => is_each(section.said, &ended.order),
+        _ => false,
+    }
+}
+
+/// Returns whether the cause has this name.
+fn is_named(alloc: Global, name: &str, ended: &Ended) -> bool {
+    match format!(in alloc; "{:?}", ended.status) {
+        Ok(cause) => word_of(cause.as_str()) == name,
+        Err(_) => false,
+    }
+}
+
+/// Returns whether `most N` is said, and there are at most so many.
+fn is_at_most(said: &str, count: u64) -> bool {
+    let most = number_of(words_behind(said));
+    word_of(said) == "most" && most < u64::MAX && count <= most
+}
+
+/// Returns what the numbers come to.
+fn sum_of(numbers: &[u64]) -> u64 {
+    let mut sum = 0u64;
+    for number in numbers {
+        sum = sum.saturating_add(*number);
+    }
+    sum
 }
 
 /// Adds the status as it is written in code.

@@ -7,6 +7,7 @@ use crate::words::words_of;
 use scenario_lines::{Line, Page, number_of, word_of, words_behind};
 use std::alloc::Global;
 use std::sync::Wait;
+use std::thread::Threads;
 
 /// How many calls are made at most.
 const MOST_TURNS: u64 = 1000;
@@ -34,7 +35,7 @@ impl<'a> Turns<'a> {
 /// Makes the call of a step so many times, in which one call fails in turn. Returns what the first
 /// of them left, and behind it what a later one left where that differs from what the one before it
 /// left.
-pub fn play_turns<'a, R: Wait>(
+pub fn play_turns<'a, R: Threads + Wait + Sync>(
     rt: &R,
     alloc: Global,
     step: &Step<'a>,
@@ -72,7 +73,7 @@ fn add_heads(alloc: Global, step: &Step<'_>, page: &mut Page) {
 
 /// Makes one of these calls, and the call behind it if there is one. Returns what the last of them
 /// left.
-fn play_turn<R: Wait>(
+fn play_turn<R: Threads + Wait + Sync>(
     rt: &R,
     alloc: Global,
     step: &Step<'_>,
@@ -92,7 +93,7 @@ fn play_turn<R: Wait>(
 }
 
 /// Makes the call behind a call that failed, over what that left, and adds what it left.
-fn play_then<R: Wait>(
+fn play_then<R: Threads + Wait + Sync>(
     rt: &R,
     alloc: Global,
     step: &Step<'_>,

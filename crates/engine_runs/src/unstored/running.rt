@@ -19,13 +19,14 @@ use graph_atoms::atom_gather::Cut;
 use graph_core::Graph;
 use std::alloc::Global;
 use std::sync::Wait;
+use std::thread::Threads;
 use store::snap_journal::JournalFault;
 use update_api::Program;
 
 /// Runs a program on the graph, which is cut so, from the start to the end of the run, without a
 /// store. Machines fail as the failures order, and all go back to the start, since no snapshot is
 /// taken. The run ends finished or at its budget, and is refused for want of memory alone.
-pub fn run_unstored<R: Wait, P: Program>(
+pub fn run_unstored<R: Threads + Wait + Sync, P: Program + Send + Sync>(
     rt: &R,
     alloc: Global,
     input: &UnstoredInput<'_>,
@@ -69,16 +70,12 @@ pub fn run_unstored<R: Wait, P: Program>(
         engine: input.engine,
         window: None,
     };
-    let mut call = begin(alloc, input.graph, program, input.cut, plan, input.failures)?;
-    match play_unstored(rt, alloc, input.graph, program, &mut call) {
-        Ok(end) => match gathered(alloc, input.graph, input.failures, call, end, 0) {
-            Ok(run) => Ok(run),
-            Err(why) => Err(only_memory(why)),
-        },
-        Err(NoMemory) => {
-            drop(call);
-            Err(NoMemory)
-        }
+    let call = begin(alloc, input.graph, program, input.cut, plan, input.failures)?;
+    let ended = play_unstored(rt, alloc, input.graph, program, call)?;
+    let (call, end) = ended;
+    match gathered(alloc, input.graph, input.failures, call, end, 0) {
+        Ok(run) => Ok(run),
+        Err(why) => Err(only_memory(why)),
     }
 }
 

@@ -8,29 +8,39 @@ use crate::calls::StoredCall;
 use crate::finish::task_left;
 use crate::placed::PlacedProgram;
 use crate::rollback::go_back_to_start;
+use crate::threads::go_on_threads;
 use cluster_step::drive::{UnsavedPause, drive_unsaved};
 use gl_base::NoMemory;
 use graph_core::Graph;
 use std::alloc::Global;
 use std::sync::Wait;
+use std::thread::Threads;
 use update_api::Program;
 
-/// Goes on until the run ends.
-pub(crate) fn play_unstored<R: Wait, P: Program>(
+/// Goes on until the run ends: on threads, and then to the next pause, again and again. Returns the
+/// call as it ended. `NoMemory` drops the call.
+pub(crate) fn play_unstored<R: Threads + Wait + Sync, P: Program + Send + Sync>(
     rt: &R,
     alloc: Global,
     graph: &Graph,
     program: P,
-    call: &mut StoredCall<P>,
-) -> Result<StoredEnd, NoMemory>
-    requires { CanGoOnUnstored graph.now call.old }
-    ensures on { IfOk result (λ end.
-        GoesOnUnstored P.meaning graph.now (P.meaning program) call.old call.new) }
-    ensures ends { IfOk result (EndsCallUnstored P.meaning call.new) }
+    call: StoredCall<P>,
+) -> Result<(StoredCall<P>, StoredEnd), NoMemory>
+    requires { CanGoOnUnstored graph.now call }
+    ensures on { IfOk result (λ ended.
+        GoesOnUnstored P.meaning graph.now (P.meaning program) call ended.0) }
+    ensures ends { IfOk result (λ ended. EndsCallUnstored P.meaning ended.0 ended.1) }
 {
+    let mut call = call;
     for _ in rt.forever() {
-        if let Some(end) = step(rt, alloc, graph, program, call)? {
-            return Ok(end);
+        let mut on = go_on_threads(rt, alloc, call)?;
+        match step(rt, alloc, graph, program, &mut on) {
+            Ok(None) => call = on,
+            Ok(Some(end)) => return Ok((on, end)),
+            Err(NoMemory) => {
+                drop(on);
+                return Err(NoMemory);
+            }
         }
     }
     unreachable!()

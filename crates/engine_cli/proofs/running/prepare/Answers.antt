@@ -1,3 +1,5 @@
+use denote.Param.Send.{sendable}
+use Rattle.std.proofs.Crossing.{crosses}
 use Rattle.std.proofs.lemmas.Result.{err_from_is_err_and}
 use Rattle.job_io.specs.job_config.Views.{job_view}
 use Rattle.engine_cli.proofs.JobFailures.{few-failures, job-failures}
@@ -28,9 +30,11 @@ returns-in_err-input-clause-used g c = store-unused c.args.asked c.args.file.now
 pub run_input-requires : goal.run_input-requires
 run_input-requires g c =
     let input = c.in_ok-input.input in
-    let was = c.in_ok-input.ensures.answer.0 in
-    can-run c.args.asked input c.requires was.ready.doable was.directed was.ready.numbers (job-failures input.job.machines input.job.failures.items was.ready.failures) (few-failures input.job.machines input.job.failures.items was.ready.failures)
-    was.graph was.start (can-cut c.in_ok-input.input (g.F.Files.state c.args.files.now) was.ready.numbers.atoms.0 c.in_ok-input.ensures.cut)
+    let was = c.in_ok-input.ensures.answer.0 in (
+      search (sendable, crosses) depth 40,
+      can-run c.args.asked input c.requires was.ready.doable was.directed was.ready.numbers (job-failures input.job.machines input.job.failures.items was.ready.failures) (few-failures input.job.machines input.job.failures.items was.ready.failures)
+          was.graph was.start (can-cut c.in_ok-input.input (g.F.Files.state c.args.files.now) was.ready.numbers.atoms.0 c.in_ok-input.ensures.cut),
+    )
 
 pub returns-in-Ok-clause-answer : goal.returns-in-Ok-clause-answer
 returns-in-Ok-clause-answer g c =

@@ -1,23 +1,24 @@
 -- The call goes on, pause behind pause, until it ends.
-use Rattle.std.proofs.Common.{subst}
-use Rattle.std.specs.Prelude.{IfSome}
-use Rattle.engine_runs.proofs.unstored.Goings.{goes_then, stays}
-use Rattle.engine_runs.specs.unstored.Inner.Going.{EndsCallUnstored}
+use Rattle.engine_runs.proofs.unstored.Goings.{goes_then, goes_to, stays}
 use Rattle.engine_runs.proofs.unstored.steps.play_unstored.Goals as goal
 
 pub loop-init : goal.loop-init
-loop-init g c = stays g.P.Program.meaning c.args.graph.now (g.P.Program.meaning c.args.program) c.args.call.now c.requires
+loop-init g c = stays g.P.Program.meaning c.args.graph.now (g.P.Program.meaning c.args.program) c.args.call c.requires
 
 pub step-requires : goal.step-requires
-step-requires g c = c.loop.invariant.can
+step-requires g c =
+    (goes_to g.P.Program.meaning c.args.graph.now (g.P.Program.meaning c.args.program) c.loop.call c.in_ok-on.on c.in_ok-on.ensures.same c.in_ok-on.ensures.attempt c.in_ok-on.ensures.known c.loop.invariant.can).can
 
 pub loop-preserved : goal.loop-preserved
 loop-preserved g c =
-    goes_then g.P.Program.meaning c.args.graph.now (g.P.Program.meaning c.args.program) c.args.call.now c.loop.call c.step.new.call c.loop.invariant c.in_ok-end.ensures.on
+    goes_then g.P.Program.meaning c.args.graph.now (g.P.Program.meaning c.args.program) c.args.call c.in_ok-on.on c.step.new.call
+    (goes_then g.P.Program.meaning c.args.graph.now (g.P.Program.meaning c.args.program) c.args.call c.loop.call c.in_ok-on.on c.loop.invariant
+    (goes_to g.P.Program.meaning c.args.graph.now (g.P.Program.meaning c.args.program) c.loop.call c.in_ok-on.on c.in_ok-on.ensures.same c.in_ok-on.ensures.attempt c.in_ok-on.ensures.known c.loop.invariant.can))
+    c.in-Ok-None.ensures.on
 
-pub returns-in-Some-2-clause-on : goal.returns-in-Some-2-clause-on
-returns-in-Some-2-clause-on g c =
-    goes_then g.P.Program.meaning c.args.graph.now (g.P.Program.meaning c.args.program) c.args.call.now c.loop.call c.step.new.call c.loop.invariant c.in_ok-end.ensures.on
-
-pub returns-in-Some-2-clause-ends : goal.returns-in-Some-2-clause-ends
-returns-in-Some-2-clause-ends g c = subst (λ (end : _). IfSome end (EndsCallUnstored g.P.Program.meaning c.step.new.call)) c.in-Some-2.is c.in_ok-end.ensures.ends
+pub returns-in-Ok-Some-clause-on : goal.returns-in-Ok-Some-clause-on
+returns-in-Ok-Some-clause-on g c =
+    goes_then g.P.Program.meaning c.args.graph.now (g.P.Program.meaning c.args.program) c.args.call c.in_ok-on.on c.step.new.call
+    (goes_then g.P.Program.meaning c.args.graph.now (g.P.Program.meaning c.args.program) c.args.call c.loop.call c.in_ok-on.on c.loop.invariant
+    (goes_to g.P.Program.meaning c.args.graph.now (g.P.Program.meaning c.args.program) c.loop.call c.in_ok-on.on c.in_ok-on.ensures.same c.in_ok-on.ensures.attempt c.in_ok-on.ensures.known c.loop.invariant.can))
+    c.in-Ok-Some.ensures.on
