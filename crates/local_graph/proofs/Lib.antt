@@ -2,6 +2,7 @@ pub mod FillLemmas
 pub mod BlankLemmas
 pub mod PlaceLemmas
 pub mod RowLemmas
+pub mod WayLemmas
 pub mod EndLemmas
 pub mod ListLemmas
 pub mod ScopeLemmas

@@ -1,12 +1,11 @@
 -- Lists that grow item by item.
 use Rattle.std.proofs.Common.{◌≡◌, ℕ, zero, suc, ◌+◌, ◌<◌, ◌||◌, ◌++◌, Bool, true, false, nat_lt, if◌then◌else◌, List, [], ◌∷◌, length, get_or, map, take, refl, sym, ap, ◌∙◌, arith}
 use Rattle.std.specs.List.{filter, range_with_len}
-use Rattle.std.proofs.lemmas.List.{append_assoc, map-append, map_more, take_more, length-take-le}
+use Rattle.std.proofs.lemmas.List.{append_assoc, map-append, map_more}
 use Rattle.std.proofs.lemmas.List.Elements.{filter-append}
 use Rattle.graph_core.specs.declared.halves.Half.{Half}
-use Rattle.update_api.specs.declared.links.Link.{Link}
 use Rattle.local_graph.specs.declared.sides.Side.{Side}
-use Rattle.local_graph.specs.Lines.{link_of, links_from}
+use Rattle.local_graph.specs.Lines.{links_from}
 use Rattle.local_graph.specs.Played.{sides_kept}
 
 -- one more item of a list that is mapped
@@ -43,18 +42,6 @@ range_push a (suc n) =
 
 pub range_more : (n : ℕ) → range_with_len 0 (n + 1) ≡ range_with_len 0 n ++ n ∷ []
 range_more n = let e : 0 + n ≡ n = omega arith in range_push 0 n ∙ ap (λ (k : ℕ). range_with_len 0 n ++ k ∷ []) e
-
-links-append : (k : ℕ) (hs : List Half) (h : Half) → links_from k (hs ++ h ∷ []) ≡ links_from k hs ++ link_of (k + length hs) h ∷ []
-links-append k [] h = let e : k + 0 ≡ k = omega arith in ap (λ (j : ℕ). link_of j h ∷ []) (sym e)
-links-append k (g ∷ hs) h =
-    let e : suc k + length hs ≡ k + suc (length hs) = omega arith in
-    ap (λ (ls : List Link). link_of k g ∷ ls) (links-append (suc k) hs h ∙ ap (λ (j : ℕ). links_from (suc k) hs ++ link_of j h ∷ []) e)
-
-pub links_more : (hs : List Half) (i : ℕ) (d : Half) → i < length hs → links_from 0 (take (i + 1) hs) ≡ links_from 0 (take i hs) ++ link_of i (get_or hs i d) ∷ []
-links_more hs i d inside =
-    let e : 0 + length (take i hs) ≡ i = omega (arith, length-take-le i hs) in
-    ap (links_from 0) (take_more hs i d inside) ∙ links-append 0 (take i hs) (get_or hs i d)
-    ∙ ap (λ (j : ℕ). links_from 0 (take i hs) ++ link_of j (get_or hs i d) ∷ []) e
 
 pub length-links : (k : ℕ) (hs : List Half) → length (links_from k hs) ≡ length hs
 length-links k [] = refl

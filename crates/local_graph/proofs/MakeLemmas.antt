@@ -1,7 +1,5 @@
 -- Lists that are made place by place.
-use Rattle.std.proofs.Common.{◌≡◌, ℕ, ◌+◌, ◌++◌, Option, Some, List, [], ◌∷◌, get_or, map, sym, ap, ◌∙◌}
-use Rattle.std.specs.declared.vec.Vec.{Vec}
-use Rattle.std.specs.declared.alloc.Global.{Global}
+use Rattle.std.proofs.Common.{◌≡◌, ℕ, ◌+◌, ◌++◌, List, [], ◌∷◌, get_or, map, sym, ap, ◌∙◌}
 use Rattle.std.specs.List.{range_with_len}
 use Rattle.std.proofs.lemmas.List.{map_push}
 use Rattle.gl_base.specs.declared.numbers.MachineNo.{MachineNo}
@@ -12,9 +10,8 @@ use Rattle.local_graph.specs.declared.making.ByPlace.{ByPlace}
 use Rattle.local_graph.specs.declared.sides.Side.{Side}
 use Rattle.local_graph.specs.Lines.{links_from}
 use Rattle.local_graph.specs.Played.{numbers_of}
-use Rattle.local_graph.specs.Inner.AtPlaces.{halves_known, machines_of, row_at, scope_numbers, sides_known}
+use Rattle.local_graph.specs.Inner.AtPlaces.{halves_known, links_known, machines_of, scope_numbers, sides_known}
 use Rattle.local_graph.specs.Inner.ByPlace.{AreMadeTo}
-use Rattle.local_graph.specs.Inner.Kept.{links_of}
 use Rattle.local_graph.proofs.ListLemmas.{map_range_more}
 
 -- one more row, where the rows so far are those of a range
@@ -44,30 +41,29 @@ module _ (side : Half → Side) (many : ℕ) (me : MachineNo) (machines : ℕ) (
       (ap (map numbers_of) added.to_part ∙ map_push numbers_of old.part scope) (added.is_scope ∙ ap (scope_numbers owned (vertex k)) added.are_sides)
 
   pub made_around : (n k : ℕ) (old new : ByPlace) (sides : List Side) (scope : List Vertex) → AreMadeTo side many me machines halves known owned n k old → IsAddedAround k old new sides scope
-      → new.rows ≡ old.rows → new.parts ≡ old.parts → AreMadeTo side many me machines halves known owned n (k + 1) new
-  made_around n k old new sides scope made added rows parts =
+      → new.links ≡ old.links → new.parts ≡ old.parts → AreMadeTo side many me machines halves known owned n (k + 1) new
+  made_around n k old new sides scope made added links parts =
       record {
-        rows = ap (λ (rs : Vec (Option (Vec Link Global)) Global). map links_of rs.items) rows ∙ made.rows;
+        links = links ∙ made.links;
         parts = parts ∙ made.parts;
         sides = more_sides n k old new sides scope made added;
         part = more_part n k old new sides scope made added;
       }
 
-  pub made_own : (k : ℕ) (old new : ByPlace) (sides : List Side) (scope : List Vertex) (links : Vec Link Global) (takers : List MachineNo)
+  pub made_own : (k : ℕ) (old new : ByPlace) (sides : List Side) (scope : List Vertex) (row : List Link) (takers : List MachineNo)
       → AreMadeTo side many me machines halves known owned k k old → IsAddedAround k old new sides scope
-      → new.rows.items ≡ old.rows.items ++ Some links ∷ [] → links.items ≡ links_from 0 (halves_known halves known k)
+      → new.links ≡ old.links ++ row ∷ [] → row ≡ links_from 0 (halves_known halves known k)
       → new.parts ≡ old.parts ++ takers ∷ [] → takers ≡ machines_of me machines sides
       → AreMadeTo side many me machines halves known owned (k + 1) (k + 1) new
-  made_own k old new sides scope links takers made added rows are_links parts are_takers =
+  made_own k old new sides scope row takers made added links are_links parts are_takers =
       record {
-        rows = more (row_at halves known) k (map links_of old.rows.items) (map links_of new.rows.items) (links_of (Some links)) made.rows
-            (ap (map links_of) rows ∙ map_push links_of old.rows.items (Some links)) (ap (λ (ls : List Link). Some ls) are_links);
+        links = more (links_known halves known) k old.links new.links row made.links links are_links;
         parts = more (λ j. machines_of me machines (sides_known side many halves known j)) k old.parts new.parts takers made.parts parts (are_takers ∙ ap (machines_of me machines) added.are_sides);
         sides = more_sides k k old new sides scope made added;
         part = more_part k k old new sides scope made added;
       }
 
 pub made_none : (side : Half → Side) (many : ℕ) (me : MachineNo) (machines : ℕ) (halves : List (List Half)) (known owned : List Vertex) (b : ByPlace)
-    → b.rows.items ≡ [] → b.parts ≡ [] → b.sides ≡ [] → b.part ≡ [] → AreMadeTo side many me machines halves known owned 0 0 b
-made_none side many me machines halves known owned b rows parts sides part =
-    record { rows = ap (map links_of) rows; parts = parts; sides = sides; part = ap (map numbers_of) part }
+    → b.links ≡ [] → b.parts ≡ [] → b.sides ≡ [] → b.part ≡ [] → AreMadeTo side many me machines halves known owned 0 0 b
+made_none side many me machines halves known owned b links parts sides part =
+    record { links = links; parts = parts; sides = sides; part = ap (map numbers_of) part }

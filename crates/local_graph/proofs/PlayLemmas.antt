@@ -5,7 +5,7 @@ use Rattle.std.specs.List.Sorted.{IsPermutation}
 use Rattle.std.proofs.lemmas.Bool.{cases_lt, le-ltb, lt-ltb, true≢false}
 use Rattle.std.proofs.lemmas.Option.{slice_get-get_or, slice_get_past}
 use Rattle.std.proofs.lemmas.List.{length-append, length-map, length-replicate, get_or_past, get_or_append_left, get_or-map}
-use Rattle.std.proofs.lemmas.List.FromFn.{get_or-map-range_with_len, length-map-range_with_len}
+use Rattle.std.proofs.lemmas.List.FromFn.{get_or-map-range_with_len, length-map-range_with_len, length-range_with_len}
 use Rattle.std.proofs.lemmas.List.Folds.{list_any-append}
 use Rattle.std.proofs.lemmas.List.Sorted.{All-permutation, IsPermutation-sym}
 use Rattle.std.proofs.lemmas.List.Elements.{All-nil, All-cons, All-map, All-filter, All-head, All-tail}
@@ -24,15 +24,18 @@ use Rattle.local_graph.specs.declared.sides.Side.{Side}
 use Rattle.local_graph.specs.Lines.{half_of_line, halves_of_lines, line_out, line_into, links_from}
 use Rattle.local_graph.specs.Locals.{LocalView, AreTheirPlaces, at_place, got_at, place_of_vertex, is_own, links_at, sides_at, parts_at, part_at, machine_numbers}
 use Rattle.local_graph.specs.Played.{IsMadeOf, IsSideTo, leads_to, meets, no_datum, side_of, sides_kept}
-use Rattle.local_graph.specs.Inner.AtPlaces.{halves_known, stands_near, machines_of, row_at, scope_numbers, sides_known}
+use Rattle.local_graph.specs.Inner.AtPlaces.{halves_known, links_known, stands_near, machines_of, scope_numbers, sides_known}
 use Rattle.local_graph.specs.Inner.Beside.{AreBeside}
 use Rattle.local_graph.specs.Inner.ByPlace.{AreMadeTo, AreRowsOf, HaveEdgesBelow, LeadBack, known_vertices}
 use Rattle.local_graph.specs.Inner.Ends.{end_pairs}
-use Rattle.local_graph.specs.Inner.Kept.{HasAsMany, IsWellKept, links_of}
+use Rattle.local_graph.specs.Inner.Kept.{IsWellKept}
+use Rattle.local_graph.specs.Inner.Ways.{rows_in}
+use Rattle.update_api.specs.declared.links.Link.{Link}
 use Rattle.local_graph.proofs.EndLemmas.{ends_at}
 use Rattle.local_graph.proofs.ListLemmas.{kept_all, length-links}
 use Rattle.local_graph.proofs.RowLemmas.{own_place}
 use Rattle.local_graph.proofs.ScopeLemmas.{kept_any, sides_lead}
+use Rattle.local_graph.proofs.WayLemmas.{all_in}
 
 -- the lists as they were made by place, from vertices and ghosts and the half-edges at each vertex
 pub record IsMade (me : MachineNo) (own : List VertexLine) (ghosts : List GhostLine) (outline : Outline) (halves : List (List Half)) (order : List VertexLine) (l : LocalView) : Type 0 where
@@ -44,7 +47,8 @@ pub record IsMade (me : MachineNo) (own : List VertexLine) (ghosts : List GhostL
   pub below : All (λ v. v.0 < outline.vertices) (known_vertices order ghosts)
   pub ids : l.ids ≡ map (λ v. v.id) order
   pub kept : l.kept ≡ replicate (length order) no_datum
-  pub rows : l.rows ≡ map (row_at halves (known_vertices order ghosts)) (range_with_len 0 (length order))
+  pub links : l.links ≡ map (links_known halves (known_vertices order ghosts)) (range_with_len 0 (length order))
+  pub rows : l.rows ≡ map (λ k. Some (links_known halves (known_vertices order ghosts) k)) (range_with_len 0 (length order))
   pub parts : l.parts ≡ map (λ k. machines_of me outline.machines (sides_known (side_of me (length order) ghosts l.places) (length order) halves (known_vertices order ghosts) k)) (range_with_len 0 (length order))
   pub sides : l.sides ≡ map (sides_known (side_of me (length order) ghosts l.places) (length order) halves (known_vertices order ghosts)) (range_with_len 0 (length (known_vertices order ghosts)))
   pub part : map numbers_of l.part ≡ map (λ k. scope_numbers l.owned (get_or (known_vertices order ghosts) k (record { 0 = 0 })).0 (sides_known (side_of me (length order) ghosts l.places) (length order) halves (known_vertices order ghosts) k)) (range_with_len 0 (length (known_vertices order ghosts)))
@@ -60,7 +64,8 @@ joined me owned places lists beside =
       places = places;
       ids = beside.ids.items;
       kept = beside.kept.items;
-      rows = map links_of lists.rows.items;
+      rows = rows_in beside.outs.items lists.links;
+      links = lists.links;
       sides = lists.sides;
       parts = lists.parts;
       part = lists.part;
@@ -82,7 +87,10 @@ joined_made me own ghosts outline halves order known owned places lists beside i
       below = subst (All (λ (v : Vertex). v.0 < outline.vertices)) is below;
       ids = are.ids;
       kept = are.kept;
-      rows = made_there.rows;
+      links = made_there.links;
+      rows = ap (λ (os : List Bool). rows_in os lists.links) (are.outs ∙ ap (λ (n : ℕ). replicate n false) (sym (length-range_with_len 0 (length order))))
+          ∙ ap (rows_in (replicate (length (range_with_len 0 (length order))) false)) made_there.links
+          ∙ all_in (links_known halves (known_vertices order ghosts)) (range_with_len 0 (length order));
       parts = made_there.parts;
       sides = made_there.sides;
       part = made_there.part;
@@ -232,7 +240,7 @@ module _ (me : MachineNo) (own : List VertexLine) (ghosts : List GhostLine) (out
   row_is : (v k : ℕ) → place_of_vertex l.places v ≡ Some k → k < length order → links_at l v ≡ Some (links_from 0 (get_or halves v []))
   row_is v k at low =
       ap (λ o. at_place l.rows o None) at
-      ∙ ap (λ rows. get_or rows k None) made.rows ∙ get_or-map-range_with_len (row_at halves known) 0 (length order) k k None low (omega arith)
+      ∙ ap (λ rows. get_or rows k None) made.rows ∙ get_or-map-range_with_len (λ j. Some (links_known halves known j)) 0 (length order) k k None low (omega arith)
       ∙ ap (λ (hs : List Half). Some (links_from 0 hs)) (halves_here v k at)
 
   parts_is : (v k : ℕ) → place_of_vertex l.places v ≡ Some k → k < length order → machine_numbers (parts_at l v) ≡ filter (meets me (sides_at l v)) (range_with_len 0 outline.machines)
@@ -336,16 +344,21 @@ module _ (me : MachineNo) (own : List VertexLine) (ghosts : List GhostLine) (out
         ids = ap length made.ids ∙ length-map order (λ (v : VertexLine). v.id) ∙ sym many_kept;
         rows = many_rows ∙ sym many_kept;
         parts = ap length made.parts ∙ length-map-range_with_len (λ (j : ℕ). machines_of me outline.machines (sides_known as_side (length order) halves known j)) 0 (length order) ∙ sym many_kept;
+        links = many_links ∙ sym many_kept;
+        same = λ k. elim (cases_lt k (length order)) [
+          | inl inside ↦ λ there.
+              ap (λ rows. get_or rows k None) made.rows ∙ get_or-map-range_with_len (λ j. Some (links_known halves known j)) 0 (length order) k k None inside (omega arith)
+              ∙ ap (λ (ls : List Link). Some ls) (sym (links_here k inside))
+          | inr past ↦ λ there. absurd (true≢false (sym there ∙ ap is_some (get_or_past l.rows k None (omega (arith, many_rows)))))
+        ];
         fit = λ k inside.
-            let own_low : k < length order = omega (arith, many_rows) in
+            let own_low : k < length order = omega (arith, many_links) in
             let side_low : k < length known = omega (arith, long) in
-            let row : get_or l.rows k None ≡ row_at halves known k =
-            ap (λ rows. get_or rows k None) made.rows ∙ get_or-map-range_with_len (row_at halves known) 0 (length order) k k None own_low (omega arith) in
             let all : sides_known as_side (length order) halves known k ≡ map as_side (halves_known halves known k) =
             ap (λ b. sides_kept b (length order) (map as_side (halves_known halves known k))) (lt-ltb k (length order) own_low) ∙ kept_all (length order) (map as_side (halves_known halves known k)) in
             let many : length (links_from 0 (halves_known halves known k)) ≡ length (get_or l.sides k []) =
             length-links 0 (halves_known halves known k) ∙ sym (ap length (sides_here k side_low ∙ all) ∙ length-map (halves_known halves known k) as_side) in
-            subst (HasAsMany (length (get_or l.sides k []))) (sym row) many;
+            ap length (links_here k own_low) ∙ many;
         edges = λ k. elim (cases_lt k (length known)) [
           | inl inside ↦
               let listed = subst (λ (m : ℕ). All (λ (h : Half). h.edge.0 < m) (halves_known halves known k)) (sym many_numbers) (edges (get_or known k no_vertex).0 (made.below k no_vertex inside)) in
@@ -368,7 +381,13 @@ module _ (me : MachineNo) (own : List VertexLine) (ghosts : List GhostLine) (out
       many_sides = ap length made.sides ∙ length-map-range_with_len (sides_known as_side (length order) halves known) 0 (length known)
 
       many_rows : length l.rows ≡ length order
-      many_rows = ap length made.rows ∙ length-map-range_with_len (row_at halves known) 0 (length order)
+      many_rows = ap length made.rows ∙ length-map-range_with_len (λ j. Some (links_known halves known j)) 0 (length order)
+
+      many_links : length l.links ≡ length order
+      many_links = ap length made.links ∙ length-map-range_with_len (links_known halves known) 0 (length order)
+
+      links_here : (k : ℕ) → k < length order → get_or l.links k [] ≡ links_known halves known k
+      links_here k low = ap (λ rows. get_or rows k []) made.links ∙ get_or-map-range_with_len (links_known halves known) 0 (length order) k k [] low (omega arith)
 
       many_numbers : length l.numbers ≡ outline.edges
       many_numbers = ap length made.numbers ∙ length-replicate outline.edges 0

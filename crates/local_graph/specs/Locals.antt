@@ -9,8 +9,8 @@ use Rattle.update_api.specs.declared.links.Link.{Link}
 use Rattle.local_graph.specs.declared.sides.Side.{Side}
 
 -- Its own vertices and its ghosts, ascending, and the place of each, the ghosts behind the own ones. By place, of its own
--- vertices: identifier, datum, the links of the row while that is not out, and the machines of the scope; of all: the sides,
--- and the own vertices in the scope. By the number of an edge: its number.
+-- vertices: identifier, datum, the links of the row while that is not out, the same whether it is out or not, and the machines
+-- of the scope; of all: the sides, and the own vertices in the scope. By the number of an edge: its number.
 pub record LocalView : Type 0 where
   pub me : MachineNo
   pub owned : List Vertex
@@ -19,6 +19,7 @@ pub record LocalView : Type 0 where
   pub ids : List ℕ
   pub kept : List Datum
   pub rows : List (Option (List Link))
+  pub links : List (List Link)
   pub sides : List (List Side)
   pub parts : List (List MachineNo)
   pub part : List (List Vertex)
@@ -63,6 +64,10 @@ id_at l v = at_place l.ids (place_at l v) 0
 -- the links of its row, where that is not out
 abbrev pub links_at : LocalView → ℕ → Option (List Link)
 links_at l v = at_place l.rows (place_at l v) None
+
+-- the links of its row, whether that is out or not
+abbrev pub row_at : LocalView → ℕ → List Link
+row_at l v = at_place l.links (place_at l v) []
 
 -- the edges at it that the machine holds
 abbrev pub sides_at : LocalView → ℕ → List Side

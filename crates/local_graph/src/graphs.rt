@@ -2,15 +2,15 @@
 ghost use Rattle.std.specs.Prelude.{◌≡◌, ℕ, ◌<◌, ◌≤◌, ◌==◌, true, None, Some, is_some, length, if◌then◌else◌, vec_capacity};
 ghost use Rattle.std.specs.List.{All};
 ghost use Rattle.local_graph.specs.Played.{IsSideTo};
-ghost use Rattle.local_graph.specs.Locals.{place_at, is_placed, is_own, own_datum, id_at, links_at, sides_at, parts_at, part_at, edge_number_at, HasEdge, numbers_along, set_where, written};
+ghost use Rattle.local_graph.specs.Locals.{place_at, is_placed, is_own, own_datum, id_at, links_at, row_at, sides_at, parts_at, part_at, edge_number_at, HasEdge, numbers_along, set_where, written};
 
+use crate::links::LinkRows;
 use crate::numbers::EdgeNumbers;
 use crate::{Row, Side};
 use gl_base::vertex_places::Places;
 use gl_base::{Datum, EdgeNo, GhostLine, MachineNo, Vertex};
 use graph_core::Rows;
 use std::marker::Model;
-use update_api::Link;
 
 /// The part of the graph that a machine owns, with the data of its own vertices and the numbers of
 /// edges. Contracts see it by the vertex's number; what is kept stands in an order of the machine's
@@ -23,7 +23,8 @@ pub struct LocalGraph {
     pub(crate) places: Places,
     pub(crate) ids: Vec<u64>,
     pub(crate) kept: Vec<Datum>,
-    pub(crate) rows: Vec<Option<Vec<Link>>>,
+    pub(crate) links: LinkRows,
+    pub(crate) outs: Vec<bool>,
     pub(crate) sides: Rows<Side>,
     pub(crate) parts: Rows<MachineNo>,
     pub(crate) part: Rows<Vertex>,
@@ -211,17 +212,19 @@ impl LocalGraph {
         ensures { result ≡ is_some (links_at self.now v.0) }
     {
         match self.places.place(v) {
-            Some(place) => place < self.rows.len() && self.rows[place].is_some(),
+            Some(place) => place < self.kept.len() && !self.outs[place],
             None => false,
         }
     }
 
-    /// Moves the row of an own vertex out, with the numbers of its edges in a list that has room
-    /// for them.
-    pub fn take_row(&mut self, v: Vertex, spare: Vec<u64>) -> Row
+    /// Lends out the row of an own vertex and the numbers of its edges, in lists that have room for
+    /// them.
+    pub fn take_row(&mut self, v: Vertex, spare: Row) -> Row
         requires row { is_some (links_at self.old v.0) ≡ true }
-        requires room { length (sides_at self.old v.0) ≤ vec_capacity spare }
+        requires room { length (sides_at self.old v.0) ≤ vec_capacity spare.numbers }
+        requires link_room { length (sides_at self.old v.0) ≤ vec_capacity spare.links }
         ensures links { links_at self.old v.0 ≡ Some result.links.items }
+        ensures row { result.links.items ≡ row_at self.old v.0 }
         ensures many { length result.links.items ≡ length (sides_at self.old v.0) }
         ensures numbers { result.numbers.items ≡ numbers_along (edge_number_at self.old)
             (sides_at self.old v.0) }
@@ -232,40 +235,36 @@ impl LocalGraph {
         let Some(place) = self.places.place(v) else {
             unreachable!();
         };
-        let numbers = self.numbers.lend(spare, self.sides.row(place));
-        match self.rows[place].take() {
-            Some(links) => Row { links, numbers },
-            None => unreachable!(),
-        }
+        let Row { links, numbers } = spare;
+        let numbers = self.numbers.lend(numbers, self.sides.row(place));
+        let links = self.links.fill(place, links);
+        self.outs[place] = true;
+        Row { links, numbers }
     }
 
-    /// Moves the row of an own vertex back, and writes the numbers of its edges. Hands back the
-    /// list that they stood in.
-    pub fn put_row(&mut self, v: Vertex, row: Row) -> Vec<u64>
+    /// The row of an own vertex is in again: writes the numbers of its edges.
+    pub fn put_row(&mut self, v: Vertex, numbers: &[u64])
         requires own { is_own self.old v.0 ≡ true }
-        requires links { length row.links.items ≡ length (sides_at self.old v.0) }
-        requires numbers { length row.numbers.items ≡ length (sides_at self.old v.0) }
-        ensures spare { result ≡ row.numbers }
+        requires numbers { length numbers.now ≡ length (sides_at self.old v.0) }
         ensures back { (x : ℕ) →
-            links_at self.new x ≡ (if x == v.0 then Some row.links.items else links_at self.old x) }
+            links_at self.new x ≡ (if x == v.0 then Some (row_at self.old v.0)
+            else links_at self.old x) }
         ensures numbers { (e : ℕ) →
-            edge_number_at self.new e ≡ written (sides_at self.old v.0) row.numbers.items
+            edge_number_at self.new e ≡ written (sides_at self.old v.0) numbers.now
             (edge_number_at self.old) e }
         ensures edges { (e : ℕ) → HasEdge self.old e → HasEdge self.new e }
         ensures many { length self.new.numbers ≡ length self.old.numbers }
         ensures exact { self.new.rows ≡ set_where self.old.rows (place_at self.old v.0)
-            (Some row.links.items) }
+            (Some (row_at self.old v.0)) }
         ensures rest { self.new ≡ record self.old {
           rows = self.new.rows;
           numbers = self.new.numbers;
         } }
     {
-        let Row { links, numbers } = row;
         let Some(place) = self.places.place(v) else {
             unreachable!();
         };
-        self.numbers.keep(self.sides.row(place), &numbers);
-        self.rows[place] = Some(links);
-        numbers
+        self.numbers.keep(self.sides.row(place), numbers);
+        self.outs[place] = false;
     }
 }

@@ -6,6 +6,7 @@ mod ends;
 mod graphs;
 mod grouping;
 mod linking;
+mod links;
 mod machines;
 mod making;
 mod moving;

@@ -1,34 +1,31 @@
-//! The row of a vertex.
-ghost use Rattle.std.specs.Prelude.{◌≡◌, IfOk};
-ghost use Rattle.local_graph.specs.Lines.{direction_of, link_of, links_from};
+//! What the links of a row tell, from the half-edges at its vertex.
+ghost use Rattle.std.specs.Prelude.{◌≡◌, map, OnOk};
+ghost use Rattle.local_graph.specs.Lines.{direction_of};
+ghost use Rattle.local_graph.specs.Inner.Ways.{way_of};
 
+use crate::links::Way;
 use gl_base::NoMemory;
 use graph_core::Half;
-use std::alloc::Global;
-use update_api::{Direction, Link};
+use update_api::Direction;
 
-/// The links of half-edges. More than 4,294,967,295 of them find no memory.
-#[tactic(auto, using(crate::proofs::ListLemmas::links_more))]
-pub fn link_all(alloc: Global, halves: &[Half]) -> Result<Vec<Link>, NoMemory>
-    ensures { IfOk result (λ links. links.items ≡ links_from 0 halves.now) }
+/// Lists what these half-edges tell as links, in place of what the list had.
+pub fn fill_ways(list: &mut Vec<Way>, halves: &[Half]) -> Result<(), NoMemory>
+    ensures { OnOk result (list.new.items ≡ map way_of halves.now) }
 {
-    if halves.len() > u32::MAX as usize {
-        return Err(NoMemory);
+    list.clear();
+    list.reserve(halves.len())?;
+    for half in halves {
+        list.push_reserved(way(half));
     }
-    let mut links = Vec::with_capacity(alloc, halves.len())?;
-    for (place, half) in halves.iter().enumerate() {
-        links.push_reserved(link_at(place as u32, half));
-    }
-    Ok(links)
+    Ok(())
 }
 
-/// The link of a half-edge at this place of a row.
-fn link_at(place: u32, half: &Half) -> Link
-    ensures { result ≡ link_of place half.now }
+/// What a half-edge tells as a link.
+#[inline]
+fn way(half: &Half) -> Way
+    ensures { result ≡ way_of half.now }
 {
-    Link {
-        near: place,
-        edge: place,
+    Way {
         weight: half.weight,
         direction: direction(half.out, half.into),
     }

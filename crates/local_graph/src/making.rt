@@ -1,26 +1,27 @@
 //! What a machine keeps by place, made one place behind another.
-ghost use Rattle.std.specs.Prelude.{◌≡◌, ◌<◌, ◌≤◌, ◌++◌, ◌∷◌, true, [], Some, length, map, slice_index_or, IfOk, OnOk};
+ghost use Rattle.std.specs.Prelude.{◌≡◌, ◌<◌, ◌≤◌, ◌++◌, ◌∷◌, true, [], length, map, slice_index_or, IfOk, OnOk};
 ghost use Rattle.std.specs.List.{All};
 ghost use Rattle.local_graph.specs.Played.{numbers_of, side_of, sides_kept};
 ghost use Rattle.local_graph.specs.Inner.AtPlaces.{ArePlain, scope_numbers};
 ghost use Rattle.local_graph.specs.Inner.ByPlace.{AreMadeTo};
+ghost use Rattle.local_graph.specs.Inner.Ways.{links_along};
 
 use crate::Side;
 use crate::ends::Standing;
-use crate::linking::link_all;
+use crate::linking::fill_ways;
+use crate::links::{LinkRows, Way};
 use crate::machines::fill_machines;
 use crate::scopes::fill_scope;
 use crate::siding::fill_sides;
 use gl_base::{MachineNo, NoMemory, Vertex};
 use graph_core::{Half, Rows};
 use std::alloc::Global;
-use update_api::Link;
 
-/// Lists by place: the rows and the machines of scopes of the own vertices, and the sides and the
-/// own vertices of scopes of all.
+/// Lists by place: the links of rows and the machines of scopes of the own vertices, and the sides
+/// and the own vertices of scopes of all.
 #[derive(Drop)]
 pub struct ByPlace {
-    pub rows: Vec<Option<Vec<Link>>>,
+    pub links: LinkRows,
     pub sides: Rows<Side>,
     pub parts: Rows<MachineNo>,
     pub part: Rows<Vertex>,
@@ -52,6 +53,7 @@ impl Sources<'_> {
 /// What is made of one place, before it is added to the lists.
 #[derive(Drop)]
 struct Draft {
+    ways: Vec<Way>,
     sides: Vec<Side>,
     machines: Vec<MachineNo>,
     scope: Vec<Vertex>,
@@ -77,22 +79,23 @@ pub fn make_by_place(
 {
     let mut lists = no_lists(alloc, sources.known.len(), standing.many, room)?;
     let mut draft = Draft {
+        ways: Vec::new(alloc),
         sides: Vec::new(alloc),
         machines: Vec::new(alloc),
         scope: Vec::new(alloc),
     };
-    add_own(alloc, &mut lists, &mut draft, sources, standing)?;
+    add_own(&mut lists, &mut draft, sources, standing)?;
     add_ghosts(&mut lists, &mut draft, sources, standing)?;
     Ok(lists)
 }
 
 /// No place, with room for so many, of which so many are of own vertices, and for so many sides.
 fn no_lists(alloc: Global, places: usize, own: usize, room: usize) -> Result<ByPlace, NoMemory>
-    ensures { IfOk result (λ lists. (lists.rows.items ≡ []) × (lists.sides ≡ []) ×
+    ensures { IfOk result (λ lists. (lists.links ≡ []) × (lists.sides ≡ []) ×
         (lists.parts ≡ []) × (lists.part ≡ [])) }
 {
     Ok(ByPlace {
-        rows: Vec::with_capacity(alloc, own)?,
+        links: LinkRows::none(alloc, own)?,
         sides: Rows::none(alloc, places, room)?,
         parts: Rows::none(alloc, own, own)?,
         part: Rows::none(alloc, places, room.saturating_add(own))?,
@@ -101,7 +104,6 @@ fn no_lists(alloc: Global, places: usize, own: usize, room: usize) -> Result<ByP
 
 /// Adds the places of the own vertices.
 fn add_own(
-    alloc: Global,
     lists: &mut ByPlace,
     draft: &mut Draft,
     sources: &Sources<'_>,
@@ -132,7 +134,8 @@ fn add_own(
             standing.me,
             sources.machines,
         )?;
-        lists.push_own(link_all(alloc, halves)?, &draft.machines)?;
+        fill_ways(&mut draft.ways, halves)?;
+        lists.push_own(&draft.ways, &draft.machines)?;
         lists.push_around(draft)?;
     }
     Ok(())
@@ -204,12 +207,13 @@ impl Draft {
 
 impl ByPlace {
     /// Adds the row and the machines of the scope of an own vertex.
-    fn push_own(&mut self, links: Vec<Link>, machines: &[MachineNo]) -> Result<(), NoMemory>
-        ensures rows { OnOk result (self.new.rows.items ≡ self.old.rows.items ++ Some links ∷ []) }
+    fn push_own(&mut self, ways: &[Way], machines: &[MachineNo]) -> Result<(), NoMemory>
+        ensures links { OnOk result
+            (self.new.links ≡ self.old.links ++ links_along 0 ways.now ∷ []) }
         ensures parts { OnOk result (self.new.parts ≡ self.old.parts ++ machines.now ∷ []) }
         ensures rest { (self.new.sides ≡ self.old.sides) × (self.new.part ≡ self.old.part) }
     {
-        self.rows.push(Some(links))?;
+        self.links.push(ways)?;
         self.parts.push(machines)
     }
 
@@ -218,7 +222,7 @@ impl ByPlace {
         ensures sides { OnOk result
             (self.new.sides ≡ self.old.sides ++ draft.now.sides.items ∷ []) }
         ensures part { OnOk result (self.new.part ≡ self.old.part ++ draft.now.scope.items ∷ []) }
-        ensures rest { (self.new.rows ≡ self.old.rows) × (self.new.parts ≡ self.old.parts) }
+        ensures rest { (self.new.links ≡ self.old.links) × (self.new.parts ≡ self.old.parts) }
     {
         self.sides.push(&draft.sides)?;
         self.part.push(&draft.scope)

@@ -179,7 +179,8 @@ fn play_in_order(
         places,
         ids: beside.ids,
         kept: beside.kept,
-        rows: lists.rows,
+        links: lists.links,
+        outs: beside.outs,
         sides: lists.sides,
         parts: lists.parts,
         part: lists.part,
@@ -193,11 +194,12 @@ struct Beside {
     ghosts: Vec<GhostLine>,
     ids: Vec<u64>,
     kept: Vec<Datum>,
+    outs: Vec<bool>,
     numbers: EdgeNumbers,
 }
 
-/// The ghosts, the identifiers of the own vertices in this order, and no number set, of these and
-/// of so many edges.
+/// The ghosts, the identifiers of the own vertices in this order, no number set, of these and of so
+/// many edges, and no row out.
 fn make_beside(
     alloc: Global,
     ghosts: &[GhostLine],
@@ -210,6 +212,7 @@ fn make_beside(
         ghosts: Vec::from_slice(alloc, ghosts)?,
         ids: list_ids(alloc, order)?,
         kept: Vec::from_elem(alloc, NO_DATUM, order.len())?,
+        outs: Vec::from_elem(alloc, false, order.len())?,
         numbers: EdgeNumbers::blank(alloc, edges as usize)?,
     })
 }

@@ -20,14 +20,17 @@ fn update(alloc: Global, local: &mut LocalGraph, v: Vertex, number: u64) -> Resu
     requires row { HasRow local.old v.0 }
 {
     let degree = local.sides(v).len();
-    let spare = Vec::with_capacity(alloc, degree)?;
+    let spare = Row {
+        links: Vec::with_capacity(alloc, degree)?,
+        numbers: Vec::with_capacity(alloc, degree)?,
+    };
     let near = Vec::from_elem(alloc, number, degree)?;
     let row = local.take_row(v, spare);
     let Ok(Outcome { work, value, .. }) = outcome(alloc, work_of(v, row, near)) else {
         return Err(NoMemory);
     };
     let Work { row, .. } = work;
-    local.put_row(v, row);
+    local.put_row(v, &row.numbers);
     Ok(value)
 }
 

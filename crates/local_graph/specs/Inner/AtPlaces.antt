@@ -17,8 +17,8 @@ abbrev pub halves_known : List (List Half) → List Vertex → ℕ → List Half
 halves_known halves known k = slice_index_or halves (slice_index_or known k (record { 0 = 0 })).0 []
 
 -- the links of its row
-abbrev pub row_at : List (List Half) → List Vertex → ℕ → Option (List Link)
-row_at halves known k = Some (links_from 0 (halves_known halves known k))
+abbrev pub links_known : List (List Half) → List Vertex → ℕ → List Link
+links_known halves known k = links_from 0 (halves_known halves known k)
 
 -- its sides, where the first so many places are those of the own vertices
 abbrev pub sides_known : (Half → Side) → ℕ → List (List Half) → List Vertex → ℕ → List Side

@@ -11,8 +11,7 @@ use Rattle.local_graph.specs.declared.outlines.Outline.{Outline}
 use Rattle.local_graph.specs.declared.sides.Side.{Side}
 use Rattle.local_graph.specs.Locals.{LocalView}
 use Rattle.local_graph.specs.Played.{IsMadeOf, numbers_of}
-use Rattle.local_graph.specs.Inner.Kept.{links_of}
-use Rattle.local_graph.specs.Inner.AtPlaces.{machines_of, row_at, scope_numbers, sides_known}
+use Rattle.local_graph.specs.Inner.AtPlaces.{links_known, machines_of, scope_numbers, sides_known}
 
 -- the own vertices in an order, and behind them the ghosts
 abbrev pub known_vertices : List VertexLine → List GhostLine → List Vertex
@@ -32,7 +31,7 @@ HaveEdgesBelow vertices edges halves = (v : ℕ) → v < vertices → All (λ h.
 
 -- By place, of the first n places: the links and the machines of the scope. Of the first m: the sides, and the own vertices of the scope.
 pub record AreMadeTo (side : Half → Side) (many : ℕ) (me : MachineNo) (machines : ℕ) (halves : List (List Half)) (known owned : List Vertex) (n m : ℕ) (b : ByPlace) : Type 0 where
-  pub rows : map links_of b.rows.items ≡ map (row_at halves known) (range_with_len 0 n)
+  pub links : b.links ≡ map (links_known halves known) (range_with_len 0 n)
   pub parts : b.parts ≡ map (λ k. machines_of me machines (sides_known side many halves known k)) (range_with_len 0 n)
   pub sides : b.sides ≡ map (sides_known side many halves known) (range_with_len 0 m)
   pub part : map numbers_of b.part ≡ map (λ k. scope_numbers owned (slice_index_or known k (record { 0 = 0 })).0 (sides_known side many halves known k)) (range_with_len 0 m)

@@ -1,8 +1,7 @@
 -- What contracts see of a machine's lists.
-use Rattle.std.specs.Prelude.{map}
 use Rattle.local_graph.specs.declared.graphs.LocalGraph.TheInside.{Inside}
 use Rattle.local_graph.specs.Locals.{LocalView}
-use Rattle.local_graph.specs.Inner.Kept.{links_of}
+use Rattle.local_graph.specs.Inner.Ways.{rows_in}
 
 abbrev pub local_view_of : Inside → LocalView
 local_view_of g =
@@ -13,7 +12,8 @@ local_view_of g =
       places = g.places;
       ids = g.ids.items;
       kept = g.kept.items;
-      rows = map links_of g.rows.items;
+      rows = rows_in g.outs.items g.links;
+      links = g.links;
       sides = g.sides;
       parts = g.parts;
       part = g.part;

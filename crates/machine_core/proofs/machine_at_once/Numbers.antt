@@ -16,7 +16,7 @@ use Rattle.task_sets.specs.task_sched.Tasks.{TasksView, is_flagged}
 use Rattle.partition.specs.declared.machine_numbers.keeping.Numbers.{Numbers}
 use Rattle.partition.specs.machine_numbers.Steps.{CanFinish, HasRun, HasTakenOut, HasUpdated}
 use Rattle.partition.specs.machine_numbers.Settings.{IsMadeOfWork, IsOutcomeOf, IsLocalOf, Setting}
-use Rattle.partition.specs.machine_numbers.Views.{AreTasksOf, LocalView, datum_here, edge_here, flag_there, value_here, is_own, links_at, numbers_along, place_at, sides_at}
+use Rattle.partition.specs.machine_numbers.Views.{AreTasksOf, LocalView, datum_here, edge_here, flag_there, value_here, is_own, links_at, numbers_along, place_at, row_at, sides_at}
 use Rattle.partition.proofs.machine_numbers.WorkLemmas.{outcome_is}
 use Rattle.machine_core.proofs.machine_scopes.PickLemmas.{free_parts}
 use Rattle.machine_core.specs.machine_at_once.Picks.{HasRunAtOnce, IsRowIn}
@@ -84,6 +84,7 @@ module _ (n : Numbers) (t : TasksView) (o : Outcome) (place : Vertex) (can : Can
   can_finish = subst (λ (k : TasksView). CanFinish (record n { tasks = k }) o) (sym is)
       (record {
         own = can.waits.own;
+        row = can.row;
         links = can.links;
         edges = can.edges;
         sides = can.can.sides;
@@ -245,6 +246,7 @@ module _ (roomy out : Numbers) (scope : ScopeId) (v : Vertex) (work : Work) (tak
               tasks = record { apart = can.tasks.apart; own = can.tasks.own };
               outside = can.outside;
             });
+        row = ap (λ (w : Work). w.row.links.items) same ∙ taken.row ∙ ap (λ (u : Vertex). row_at roomy.local u.0) (sym vertex);
         links = ap (λ (w : Work). length w.row.links.items) same ∙ taken.many ∙ ap (λ (u : Vertex). length (sides_at roomy.local u.0)) (sym vertex);
         edges = edges ∙ many_numbers ∙ ap (λ (u : Vertex). length (sides_at roomy.local u.0)) (sym vertex);
         room = room;
@@ -271,11 +273,11 @@ module _ (roomy out : Numbers) (scope : ScopeId) (v : Vertex) (work : Work) (tak
   pub back_own : is_own roomy.local v.0 ≡ true → is_own out.local w.vertex.0 ≡ true
   back_own own = ap (λ (k : Numbers). is_own k.local w.vertex.0) taken.rest ∙ ap (λ (u : Vertex). is_own roomy.local u.0) (ap (λ (x : Work). x.vertex) same ∙ taken.vertex) ∙ own
 
-  pub back_links : length w.row.links.items ≡ length (sides_at out.local w.vertex.0)
+  pub back_links : w.row.links.items ≡ row_at out.local w.vertex.0
   back_links =
-      ap (λ (x : Work). length x.row.links.items) same ∙ taken.many
-      ∙ ap (λ (u : Vertex). length (sides_at roomy.local u.0)) (sym (ap (λ (x : Work). x.vertex) same ∙ taken.vertex))
-      ∙ ap (λ (k : Numbers). length (sides_at k.local w.vertex.0)) (sym taken.rest)
+      ap (λ (x : Work). x.row.links.items) same ∙ taken.row
+      ∙ ap (λ (u : Vertex). row_at roomy.local u.0) (sym (ap (λ (x : Work). x.vertex) same ∙ taken.vertex))
+      ∙ ap (λ (k : Numbers). row_at k.local w.vertex.0) (sym taken.rest)
 
   pub back_numbers : w.row.numbers.items ≡ numbers_along (edge_here out) (sides_at out.local w.vertex.0)
   back_numbers =

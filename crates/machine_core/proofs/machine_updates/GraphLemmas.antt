@@ -6,7 +6,7 @@ use Rattle.gl_base.specs.declared.numbers.Vertex.{Vertex}
 use Rattle.local_graph.specs.declared.sides.Side.{Side}
 use Rattle.partition.specs.machine_numbers.Steps.{IsSideHere}
 use Rattle.machine_core.specs.declared.machine_parts.cores.Core.{Core}
-use Rattle.machine_core.specs.machine_parts.Parts.{LocalView, place_at, is_own, sides_at, parts_at, part_at}
+use Rattle.machine_core.specs.machine_parts.Parts.{LocalView, place_at, is_own, row_at, sides_at, parts_at, part_at}
 use Rattle.machine_core.specs.machine_parts.Order.{IsGraphInOrder, is_one_of}
 
 -- there are as many numbers of edges
@@ -23,6 +23,9 @@ module _ (old new : LocalView) (same : SameGraph old new) where
 
   pub sides_kept : (v : ℕ) → sides_at new v ≡ sides_at old v
   sides_kept v = ap (λ (l : LocalView). sides_at l v) same.rest
+
+  pub row_kept : (v : ℕ) → row_at new v ≡ row_at old v
+  row_kept v = ap (λ (l : LocalView). row_at l v) same.rest
 
   pub parts_kept : (v : ℕ) → parts_at new v ≡ parts_at old v
   parts_kept v = ap (λ (l : LocalView). parts_at l v) same.rest

@@ -18,7 +18,7 @@ use Rattle.machine_core.specs.machine_parts.Order.{IsOrderly}
 use Rattle.machine_core.specs.declared.machine_updates.reserving.Prepared.{Prepared}
 use Rattle.machine_core.specs.machine_updates.Works.{IsOut, IsApartFrom}
 use Rattle.machine_core.specs.machine_updates.Reserving.{IsReserved}
-use Rattle.machine_core.proofs.machine_updates.GraphLemmas.{sides_kept}
+use Rattle.machine_core.proofs.machine_updates.GraphLemmas.{row_kept, sides_kept}
 use Rattle.machine_core.proofs.machine_updates.CommitLemmas.{HasDone, pending_kept}
 
 numbers_same : (f g : ℕ → ℕ) (sides : List Side) → All (λ (s : Side). f s.edge.0 ≡ g s.edge.0) sides → numbers_along f sides ≡ numbers_along g sides
@@ -66,6 +66,7 @@ module _ (old new : Core) (o : Outcome) (ps : List Prepared) (ticket : ℕ) (ord
             done.updated.task u ∙ ap (λ (b : Bool). woken || (b && not (u == v))) is.task ∙ ap (λ (b : Bool). woken || not b) (ne_eqb u v apart.other) ∙ or-true woken;
         not_pending = pending_kept old new o ps ticket order out reserved done u ∙ is.not_pending;
         out = done.back u ∙ ap (λ (b : Bool). if b then Some o.work.row.links.items else links_at l u) (ne_eqb u v apart.other) ∙ is.out;
+        row = is.row ∙ sym (row_kept l new.numbers.local done.graph u);
         links = is.links ∙ sym (ap length sides_are);
         value = is.value ∙ sym (value_kept u apart.other);
         numbers =

@@ -10,7 +10,7 @@ use Rattle.partition.specs.machine_numbers.Views.{numbers_along, near_along, val
 use Rattle.partition.specs.machine_numbers.Steps.{HasTakenOut}
 use Rattle.partition.specs.machine_numbers.Settings.{IsRowOf}
 use Rattle.machine_core.specs.declared.machine_parts.cores.Core.{Core}
-use Rattle.machine_core.specs.machine_parts.Parts.{is_own, links_at, sides_at, edge_here, task_here, pending_here, flight_at, is_ready, part_of}
+use Rattle.machine_core.specs.machine_parts.Parts.{is_own, links_at, row_at, sides_at, edge_here, task_here, pending_here, flight_at, is_ready, part_of}
 use Rattle.machine_core.specs.machine_parts.Order.{IsOrderly, IsReadyAt, KnowsPlaces}
 use Rattle.machine_core.specs.machine_parts.Settings.{Setting, IsPartOf, SameSettings}
 use Rattle.machine_core.specs.machine_updates.Works.{IsOut, CanBeTaken, HasItsRow}
@@ -102,6 +102,7 @@ out_with m rows numbers w edge row out =
       task = out.task;
       not_pending = out.not_pending;
       out = row;
+      row = out.row;
       links = out.links;
       value = out.value;
       numbers = out.numbers ∙ (λ i. numbers_along (λ e. sym (edge e) i) (sides_at m.numbers.local w.vertex.0));
@@ -127,6 +128,7 @@ module _ (old : Core) (rows : List (Option (List Link))) (s : ScopeId) (v : Vert
         task = subst (λ (x : ℕ). task_here old.numbers x ≡ true) e can.task;
         not_pending = subst (λ (x : ℕ). pending_here old.numbers x ≡ false) e can.not_pending;
         out = taken.out w.vertex.0 ∙ ap (λ (b : Bool). if b then None else links_at local w.vertex.0) (eq-eqb w.vertex.0 v.0 (sym e));
+        row = taken.row ∙ ap (λ (x : ℕ). row_at local x) e;
         links = taken.many ∙ ap (λ (x : ℕ). length (sides_at local x)) e;
         value = taken.value ∙ ap (value_here old.numbers) e;
         numbers = taken.numbers ∙ ap (λ (x : ℕ). numbers_along (edge_here old.numbers) (sides_at local x)) e;

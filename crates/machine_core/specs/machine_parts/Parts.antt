@@ -1,6 +1,6 @@
 -- The part of a cluster that a machine's parts stand for.
 pub use Rattle.cluster_laws.specs.cluster_core.Parts.{Part, Stand}
-pub use Rattle.local_graph.specs.Locals.{LocalView, place_at, is_placed, is_own, links_at, sides_at, parts_at, part_at, machine_numbers}
+pub use Rattle.local_graph.specs.Locals.{LocalView, place_at, is_placed, is_own, links_at, row_at, sides_at, parts_at, part_at, machine_numbers}
 pub use Rattle.partition.specs.machine_numbers.Views.{TasksView, datum_here, task_here, edge_here, flag_there, number_told, is_in_update}
 pub use Rattle.scope_locks.specs.scope_pipe.Entered.{EnteredView, last_asked, lock_asked}
 pub use Rattle.scope_locks.specs.scope_pipe.Pipes.{PipeView, flight_at, is_ready, flight_count, entered_at}

@@ -7,16 +7,17 @@ use Rattle.local_graph.specs.declared.works.Work.{Work}
 use Rattle.partition.specs.machine_numbers.Views.{numbers_along, near_along, value_here}
 use Rattle.partition.specs.machine_numbers.Settings.{IsRowOf}
 use Rattle.machine_core.specs.declared.machine_parts.cores.Core.{Core}
-use Rattle.machine_core.specs.machine_parts.Parts.{flight_at, is_ready, task_here, pending_here, links_at, sides_at, edge_here}
+use Rattle.machine_core.specs.machine_parts.Parts.{flight_at, is_ready, task_here, pending_here, links_at, row_at, sides_at, edge_here}
 use Rattle.machine_core.specs.machine_parts.Settings.{Setting}
 
--- The work is out: its scope is ready for an ordinary update, its row is out, and its numbers are those that stand here.
+-- The work is out: its scope is ready for an ordinary update, its row is out, and its links and numbers are those that stand here.
 pub record IsOut (m : Core) (w : Work) : Type 0 where
   pub flight : flight_at m.pipe w.scope ≡ Some w.vertex
   pub ready : is_ready m.pipe w.scope ≡ true
   pub task : task_here m.numbers w.vertex.0 ≡ true
   pub not_pending : pending_here m.numbers w.vertex.0 ≡ false
   pub out : links_at m.numbers.local w.vertex.0 ≡ None
+  pub row : w.row.links.items ≡ row_at m.numbers.local w.vertex.0
   pub links : length w.row.links.items ≡ length (sides_at m.numbers.local w.vertex.0)
   pub value : w.value ≡ value_here m.numbers w.vertex.0
   pub numbers : w.row.numbers.items ≡ numbers_along (edge_here m.numbers) (sides_at m.numbers.local w.vertex.0)

@@ -20,7 +20,7 @@ use partition::machine_numbers::Spent;
 
 /// Commits an update that was made: the other machines of the scope are told, its locks here are
 /// released, it is in flight no more, and its numbers are kept under this ticket. It takes no
-/// memory, and hands back the lists of the work's and the outcome's numbers.
+/// memory, and hands back the lists of the work and of the outcome.
 pub fn commit(core: &mut Core, outcome: Outcome, prepared: Vec<Prepared>, ticket: u64) -> Spent
     requires orderly { IsOrderly core.old }
     requires out { IsOut core.old outcome.work }
@@ -64,6 +64,7 @@ pub fn commit(core: &mut Core, outcome: Outcome, prepared: Vec<Prepared>, ticket
         HasItsRow st core.old outcome.work → IsPartOf st core.new }
     ensures spare { (result.edges ≡ outcome.work.row.numbers) × (result.near ≡ outcome.work.near) }
     ensures made { result.made ≡ outcome.edges }
+    ensures links { result.links ≡ outcome.work.row.links }
 {
     let scope = outcome.work.scope;
     let vertex = outcome.work.vertex;

@@ -29,6 +29,7 @@ impl Spares {
     {
         match self.lists.pop() {
             Some(spare) => Ok(ScratchBuffers {
+                links: fit(spare.links, degree)?,
                 edges: fit(spare.edges, degree)?,
                 near: fit(spare.near, degree)?,
             }),
@@ -46,8 +47,13 @@ impl Spares {
 
     /// Keeps the lists of a work and of what was made of it, where there is room for them.
     pub fn keep_all(&mut self, spent: Spent) {
-        let Spent { edges, near, made } = spent;
-        self.keep(ScratchBuffers { edges, near });
+        let Spent {
+            links,
+            edges,
+            near,
+            made,
+        } = spent;
+        self.keep(ScratchBuffers { links, edges, near });
         if self.made.len() < self.made.capacity() {
             self.made.push_reserved(made);
         }
@@ -62,7 +68,7 @@ impl Spares {
 }
 
 /// The list, empty and with room for so many.
-fn fit(list: Vec<u64>, degree: usize) -> Result<Vec<u64>, NoMemory>
+fn fit<T: Drop>(list: Vec<T>, degree: usize) -> Result<Vec<T>, NoMemory>
     ensures { IfOk result (λ v. degree ≤ vec_capacity v) }
 {
     let mut list = list;

@@ -12,8 +12,8 @@ use local_graph::Work;
 use partition::machine_numbers::ScratchBuffers;
 use scope_locks::scope_pipe::Flight;
 
-/// Takes out a scope that is ready for an ordinary update, with the numbers that the update may
-/// use. The lists of `spare` have room for them, so it takes no memory.
+/// Takes out a scope that is ready for an ordinary update, with its row and the numbers that the
+/// update may use. The lists of `spare` have room for them, so it takes no memory.
 pub fn take_work(core: &mut Core, flight: Flight, spare: ScratchBuffers) -> Work
     requires orderly { IsOrderly core.old }
     requires can { CanBeTaken core.old flight.scope flight.centre }
@@ -41,7 +41,7 @@ pub fn take_work(core: &mut Core, flight: Flight, spare: ScratchBuffers) -> Work
 }
 
 /// Puts back a work of which no update was made: no number changes, and its scope may be taken
-/// again. It takes no memory, and hands back the lists of the work's numbers.
+/// again. It takes no memory, and hands back the lists of the work.
 pub fn put_back(core: &mut Core, work: Work) -> ScratchBuffers
     requires orderly { IsOrderly core.old }
     requires out { IsOut core.old work }
@@ -64,6 +64,7 @@ pub fn put_back(core: &mut Core, work: Work) -> ScratchBuffers
           };
         } }
     ensures spare { (result.edges ≡ work.row.numbers) × (result.near ≡ work.near) }
+    ensures links { result.links ≡ work.row.links }
 {
     core.numbers.put_back(work)
 }

@@ -19,7 +19,7 @@ use Rattle.wire.specs.declared.wire_msgs.messages.Done.{Done}
 use Rattle.partition.specs.declared.machine_numbers.keeping.Numbers.{Numbers}
 use Rattle.partition.specs.declared.machine_numbers.keeping.ScratchBuffers.{ScratchBuffers}
 use Rattle.local_graph.specs.Locals.{set_where}
-use Rattle.partition.specs.machine_numbers.Views.{own_datum, datum_or, LocalView, TasksView, News, place_at, is_own, id_at, links_at, sides_at, numbers_along, near_along, written, datum_here, value_here, task_here, edge_here, flag_there}
+use Rattle.partition.specs.machine_numbers.Views.{own_datum, datum_or, LocalView, TasksView, News, place_at, is_own, id_at, links_at, row_at, sides_at, numbers_along, near_along, written, datum_here, value_here, task_here, edge_here, flag_there}
 
 -- ---- whom an update wakes
 
@@ -47,8 +47,9 @@ woken_flags to woken (s ∷ sides) (link ∷ links) flags = woken_flags to woken
 
 -- ---- works
 
--- there is room for the numbers of a work with so many edges
+-- there is room for the row and the numbers of a work with so many edges
 pub record HasRoom (spare : ScratchBuffers) (many : ℕ) : Type 0 where
+  pub links : many ≤ vec_capacity spare.links
   pub edges : many ≤ vec_capacity spare.edges
   pub near : many ≤ vec_capacity spare.near
 
@@ -59,6 +60,7 @@ pub record HasTakenOut (old new : Numbers) (scope : ScopeId) (v : Vertex) (work 
   pub id : work.id ≡ id_at old.local v.0
   pub value : work.value ≡ value_here old v.0
   pub links : links_at old.local v.0 ≡ Some work.row.links.items
+  pub row : work.row.links.items ≡ row_at old.local v.0
   pub many : length work.row.links.items ≡ length (sides_at old.local v.0)
   pub numbers : work.row.numbers.items ≡ numbers_along (edge_here old) (sides_at old.local v.0)
   pub near : work.near.items ≡ near_along (value_here old) (sides_at old.local v.0)
@@ -81,9 +83,10 @@ pub record IsSideHere (l : LocalView) (s : Side) : Type 0 where
   pub place : place_at l s.other.0 ≡ Some s.place
   pub own : (s.owner.0 == l.me.0) ≡ true → is_own l s.other.0 ≡ true
 
--- the row of v is out, and the outcome is of its edges; v is admitted for an update; and a place in the log is left
+-- the outcome is of the row of v and of its edges; v is admitted for an update; and a place in the log is left
 pub record CanFinish (n : Numbers) (o : Outcome) : Type 0 where
   pub own : is_own n.local o.work.vertex.0 ≡ true
+  pub row : o.work.row.links.items ≡ row_at n.local o.work.vertex.0
   pub links : length o.work.row.links.items ≡ length (sides_at n.local o.work.vertex.0)
   pub edges : length o.edges.items ≡ length (sides_at n.local o.work.vertex.0)
   pub sides : All (IsSideHere n.local) (sides_at n.local o.work.vertex.0)

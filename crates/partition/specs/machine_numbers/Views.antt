@@ -1,5 +1,5 @@
 -- The numbers and tasks of a machine, as functions of vertices and edges.
-pub use Rattle.local_graph.specs.Locals.{LocalView, at_place, place_at, own_datum, is_own, id_at, links_at, sides_at, edge_number_at, HasEdge, numbers_along, written}
+pub use Rattle.local_graph.specs.Locals.{LocalView, at_place, place_at, own_datum, is_own, id_at, links_at, row_at, sides_at, edge_number_at, HasEdge, numbers_along, written}
 pub use Rattle.local_graph.specs.Played.{no_datum, IsPlayedFrom}
 pub use Rattle.scope_locks.specs.ghost_cache.Caches.{ghost_datum}
 pub use Rattle.task_sets.specs.task_sched.Tasks.{TasksView, is_flagged}

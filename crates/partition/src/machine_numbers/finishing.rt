@@ -13,7 +13,7 @@ use task_sets::task_sched::TaskSet;
 impl Numbers {
     /// Ends a work whose update was made: keeps the new numbers of the vertex and of its edges,
     /// ends its task, makes those own vertices tasks that the update wakes, and logs the update. It
-    /// takes no memory, and hands back the lists of the work's and the outcome's numbers.
+    /// takes no memory, and hands back the lists of the work and of the outcome.
     pub fn finish(&mut self, outcome: Outcome, entry: Entry) -> Spent
         requires can { CanFinish self.old outcome }
         requires tasks { AreTasksOf self.old.local self.old.tasks }
@@ -39,6 +39,7 @@ impl Numbers {
         ensures spare { (result.edges ≡ outcome.work.row.numbers) ×
             (result.near ≡ outcome.work.near) }
         ensures made { result.made ≡ outcome.edges }
+        ensures links { result.links ≡ outcome.work.row.links }
     {
         let Outcome {
             work,
@@ -57,18 +58,13 @@ impl Numbers {
         end_task(&mut self.tasks, &self.local, vertex);
         let sides = self.local.sides(vertex);
         wake_along(&mut self.tasks, &self.local, sides, &links, woken, value);
-        let made = self.local.put_row(
-            vertex,
-            Row {
-                links,
-                numbers: edges,
-            },
-        );
+        self.local.put_row(vertex, &edges);
         self.log.push_reserved(entry);
         Spent {
+            links,
             edges: numbers,
             near,
-            made,
+            made: edges,
         }
     }
 }

@@ -2,7 +2,7 @@
 ghost use Rattle.std.specs.Prelude.{◌≡◌, ℕ, ◌≤◌, ◌==◌, true, None, Some, is_some, length, if◌then◌else◌, vec_capacity, IfOk};
 ghost use Rattle.std.specs.List.{All};
 ghost use Rattle.local_graph.specs.Played.{IsSideTo};
-ghost use Rattle.partition.specs.machine_numbers.Views.{HasEdge, is_own, links_at, sides_at, numbers_along, datum_here, value_here, edge_here, near_along};
+ghost use Rattle.partition.specs.machine_numbers.Views.{HasEdge, is_own, links_at, row_at, sides_at, numbers_along, datum_here, value_here, edge_here, near_along};
 ghost use Rattle.partition.specs.machine_numbers.Steps.{HasTakenOut, HasRoom};
 
 use gl_base::{Datum, Entry, NoMemory, ScopeId, Vertex};
@@ -10,6 +10,7 @@ use local_graph::{LocalGraph, Row, Side, Work};
 use scope_locks::ghost_cache::GhostCache;
 use std::alloc::Global;
 use task_sets::task_sched::TaskSet;
+use update_api::Link;
 
 /// What of a machine carries numbers: its part of the graph with data, rows and the numbers of
 /// edges, the copies of the data of ghosts, its tasks by their places in the machine's own order,
@@ -22,9 +23,11 @@ pub struct Numbers {
     pub log: Vec<Entry>,
 }
 
-/// Lists for the numbers of a work: of the edges at its vertex, and of their other ends.
+/// Lists for a work: for its row's links, and for the numbers of the edges at its vertex and of
+/// their other ends.
 #[derive(Drop)]
 pub struct ScratchBuffers {
+    pub links: Vec<Link>,
     pub edges: Vec<u64>,
     pub near: Vec<u64>,
 }
@@ -33,6 +36,7 @@ pub struct ScratchBuffers {
 /// the new numbers of its edges stood.
 #[derive(Drop)]
 pub struct Spent {
+    pub links: Vec<Link>,
     pub edges: Vec<u64>,
     pub near: Vec<u64>,
     pub made: Vec<u64>,
@@ -44,6 +48,7 @@ impl ScratchBuffers {
         ensures { IfOk result (λ spare. HasRoom spare degree) }
     {
         Ok(ScratchBuffers {
+            links: Vec::with_capacity(alloc, degree)?,
             edges: Vec::with_capacity(alloc, degree)?,
             near: Vec::with_capacity(alloc, degree)?,
         })
@@ -69,19 +74,23 @@ impl Numbers {
         }
     }
 
-    /// Moves the vertex of a ready scope out for its update, with the numbers that the update may
-    /// use. The lists of `spare` have room for them, so it takes no memory.
+    /// Lends out the row of a ready scope's vertex for its update, with the numbers that the update
+    /// may use. The lists of `spare` have room for them, so it takes no memory.
     pub fn take_work(&mut self, scope: ScopeId, v: Vertex, spare: ScratchBuffers) -> Work
         requires own { is_own self.old.local v.0 ≡ true }
         requires row { is_some (links_at self.old.local v.0) ≡ true }
         requires room { HasRoom spare (length (sides_at self.old.local v.0)) }
         ensures { HasTakenOut self.old self.new scope v result }
     {
-        let ScratchBuffers { edges, near } = spare;
+        let ScratchBuffers { links, edges, near } = spare;
         let id = self.local.id(v);
         let value = self.datum(v).value;
         let near = self.gather(v, near);
-        let row = self.local.take_row(v, edges);
+        let spare = Row {
+            links,
+            numbers: edges,
+        };
+        let row = self.local.take_row(v, spare);
         Work {
             scope,
             vertex: v,
@@ -92,12 +101,11 @@ impl Numbers {
         }
     }
 
-    /// Moves the row of a work back, of which no update was made: no number changes. Hands back the
-    /// lists of its numbers.
+    /// The row of a work is in again, of which no update was made: no number changes. Hands back the
+    /// lists of the work.
     pub fn put_back(&mut self, work: Work) -> ScratchBuffers
         requires own { is_own self.old.local work.vertex.0 ≡ true }
-        requires links { length work.row.links.items ≡ length
-            (sides_at self.old.local work.vertex.0) }
+        requires links { work.row.links.items ≡ row_at self.old.local work.vertex.0 }
         requires numbers { work.row.numbers.items ≡ numbers_along (edge_here self.old)
             (sides_at self.old.local work.vertex.0) }
         ensures back { (x : ℕ) →
@@ -114,6 +122,7 @@ impl Numbers {
               };
             } }
         ensures spare { (result.edges ≡ work.row.numbers) × (result.near ≡ work.near) }
+        ensures links { result.links ≡ work.row.links }
     {
         let Work {
             vertex,
@@ -121,8 +130,13 @@ impl Numbers {
             near,
             ..
         } = work;
-        let edges = self.local.put_row(vertex, row);
-        ScratchBuffers { edges, near }
+        let Row { links, numbers } = row;
+        self.local.put_row(vertex, &numbers);
+        ScratchBuffers {
+            links,
+            edges: numbers,
+            near,
+        }
     }
 
     /// The number at the end of a side that has its place.

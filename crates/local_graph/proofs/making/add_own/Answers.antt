@@ -1,17 +1,15 @@
 use Rattle.std.proofs.Common.{◌≡◌, ◌<◌, ◌++◌, true, [], ◌∷◌, List, length, get_or, map, sym, ap, ◌∙◌, arith}
 use Rattle.std.proofs.lemmas.Bool.{lt-ltb}
-use Rattle.std.specs.declared.vec.Vec.{Vec}
-use Rattle.std.specs.declared.alloc.Global.{Global}
-use Rattle.std.specs.Prelude.{Option}
 use Rattle.gl_base.specs.declared.numbers.MachineNo.{MachineNo}
 use Rattle.gl_base.specs.declared.numbers.Vertex.{Vertex}
-use Rattle.update_api.specs.declared.links.Link.{Link}
 use Rattle.graph_core.specs.declared.halves.Half.{Half}
 use Rattle.local_graph.specs.Lines.{links_from}
 use Rattle.local_graph.specs.declared.sides.Side.{Side}
 use Rattle.local_graph.specs.Played.{numbers_of, side_of, sides_kept}
 use Rattle.local_graph.specs.Inner.AtPlaces.{halves_known, machines_of, scope_numbers, sides_known}
+use Rattle.local_graph.specs.Inner.Ways.{links_along}
 use Rattle.local_graph.proofs.MakeLemmas.{IsAddedAround, made_own}
+use Rattle.local_graph.proofs.WayLemmas.{links_are}
 use Rattle.local_graph.proofs.making.add_own.Goals as goal
 
 pub loop-place-preserved : goal.loop-place-preserved
@@ -41,8 +39,8 @@ loop-place-preserved c =
       are_sides = are_sides;
       is_scope = is_scope;
     } in
-    made_own side s.many s.me p.machines p.halves.now known p.owned.now k old new sides scope c.in_ok-link_all.field-0 c.fill_machines.new.list.items c.loop-place.invariant added
-    (ap (λ (rows : Vec (Option (Vec Link Global)) Global). rows.items) c.push_around.ensures.rest.0 ∙ c.in_ok-push_own.ensures.rows)
-    (c.in_ok-link_all.ensures ∙ ap (λ (hs : List Half). links_from 0 hs) is)
-    (c.push_around.ensures.rest.1 ∙ c.in_ok-push_own.ensures.parts ∙ ap (λ (ms : List MachineNo). old.parts ++ ms ∷ []) c.deref-in-loop-place.ensures.value)
+    made_own side s.many s.me p.machines p.halves.now known p.owned.now k old new sides scope (links_along 0 c.deref-in-loop-place.result.now) c.fill_machines.new.list.items c.loop-place.invariant added
+    (c.push_around.ensures.rest.0 ∙ c.in_ok-push_own.ensures.links)
+    (ap (links_along 0) (c.deref-in-loop-place.ensures.value ∙ c.in_ok-fill_ways.ensures) ∙ links_are 0 c.row-halves.result.now ∙ ap (λ (hs : List Half). links_from 0 hs) is)
+    (c.push_around.ensures.rest.1 ∙ c.in_ok-push_own.ensures.parts ∙ ap (λ (ms : List MachineNo). old.parts ++ ms ∷ []) c.deref-in-loop-place-2.ensures.value)
     (c.in_ok-fill_machines.ensures ∙ ap (machines_of s.me p.machines) c.deref.ensures.value)

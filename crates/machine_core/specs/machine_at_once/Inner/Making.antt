@@ -2,7 +2,7 @@
 pub use Rattle.partition.specs.machine_numbers.Steps.{HasUpdated, IsSideHere}
 pub use Rattle.partition.specs.machine_numbers.Settings.{IsOutcomeOf, IsLocalOf}
 pub use Rattle.partition.specs.machine_numbers.Views.{AreTasksOf, datum_here, edge_here}
-pub use Rattle.machine_core.specs.machine_parts.Parts.{sides_at}
+pub use Rattle.machine_core.specs.machine_parts.Parts.{row_at, sides_at}
 use Rattle.std.specs.Prelude.{◌≡◌, ℕ, ◌<◌, ◌≤◌, length, vec_len, vec_capacity}
 use Rattle.std.specs.List.{All}
 use Rattle.gl_base.specs.declared.entries.Entry.{Entry}
@@ -23,6 +23,7 @@ pub record CanBeMade (n : Numbers) (v : Vertex) : Type 0 where
 pub record CanBeKept (n : Numbers) (o : Outcome) (place : Vertex) : Type 0 where
   pub waits : WaitsAt n place o.work.vertex
   pub can : CanBeMade n o.work.vertex
+  pub row : o.work.row.links.items ≡ row_at n.local o.work.vertex.0
   pub links : length o.work.row.links.items ≡ length (sides_at n.local o.work.vertex.0)
   pub edges : length o.edges.items ≡ length (sides_at n.local o.work.vertex.0)
   pub room : vec_len n.log < vec_capacity n.log

@@ -6,4 +6,4 @@ use Rattle.partition.proofs.machine_numbers.keeping.Numbers.put_back.Goals as go
 pub returns-clause-edge : goal.returns-clause-edge
 returns-clause-edge c = λ e.
     let sides = sides_at c.args.self.now.local c.args.work.vertex.0 in
-    c.put_row-edges.ensures.numbers e ∙ ap (λ (xs : List ℕ). written sides xs (edge_here c.args.self.now) e) c.requires.numbers ∙ written_same (edge_here c.args.self.now) sides e
+    c.put_row.ensures.numbers e ∙ ap (λ (xs : List ℕ). written sides xs (edge_here c.args.self.now) e) (c.deref.ensures.value ∙ c.requires.numbers) ∙ written_same (edge_here c.args.self.now) sides e
