@@ -31,12 +31,12 @@ const MOST_ROUNDS: u32 = 1000000;
 
 /// A call, with the store beside it, how often machines went back, and why it paused last.
 #[derive(Drop)]
-struct Call<'a, P: Program> {
-    beginning: &'a Beginning<'a, P>,
-    trace: InTrace<P>,
-    kept: Kept,
-    recoveries: u64,
-    pause: Option<Pause>,
+pub struct Call<'a, P: Program> {
+    pub beginning: &'a Beginning<'a, P>,
+    pub trace: InTrace<P>,
+    pub kept: Kept,
+    pub recoveries: u64,
+    pub pause: Option<Pause>,
 }
 
 /// Drives a call with these failures to its end, and writes each line as it was seen then. Where
@@ -97,7 +97,7 @@ fn on_threads<'a, R: Threads + Wait + AllocGlobal + Sync, P: Program + Send + Sy
 }
 
 /// Opens the call with a store without snapshots.
-fn opened_call<'a, P: Program>(
+pub fn opened_call<'a, P: Program>(
     alloc: Global,
     beginning: &'a Beginning<'a, P>,
     failures: &[FailureAt],
@@ -140,7 +140,10 @@ fn opened_trace<P: Program>(
 }
 
 /// Goes on from pause to pause until the call has ended, or its budget is spent.
-fn go_on<R: Wait + AllocGlobal, P: Program>(rt: &R, call: &mut Call<'_, P>) -> Result<(), Trouble> {
+pub fn go_on<R: Wait + AllocGlobal, P: Program>(
+    rt: &R,
+    call: &mut Call<'_, P>,
+) -> Result<(), Trouble> {
     for _ in 0..MOST_PAUSES {
         let pause = drive(rt, &mut call.trace, true)?;
         call.pause = Some(pause);

@@ -26,6 +26,7 @@ mod restarts;
 mod scenes;
 mod stores;
 mod trouble;
+mod walks;
 
 use parts::play_file;
 use std::{env, io};

@@ -5,6 +5,7 @@ use crate::graphs::graph_of;
 use crate::plans::{Plan, take_lines};
 use crate::playing::{add_trouble, play_events};
 use crate::trouble::Trouble;
+use crate::walks::play_walks;
 use graph_core::Graph;
 use graph_programs::selection::JobProgram;
 use scenario_lines::{Page, is_given, is_remark, parts_of};
@@ -100,7 +101,9 @@ fn play_on<R: AllocGlobal + Threads + Wait + Sync>(
         return Err(Trouble::Because("the program has no such updates"));
     };
     let beginning = beginning_of(rt.alloc(), graph, program, plan)?;
-    let outcome = if plan.is_call {
+    let outcome = if plan.steps > 0 {
+        play_walks(rt, &beginning, &plan.failures, plan.steps, lines, page)
+    } else if plan.is_call {
         play_call(
             rt,
             &beginning,

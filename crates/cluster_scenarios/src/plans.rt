@@ -29,6 +29,8 @@ pub struct Plan {
     pub is_call: bool,
     /// Whether a call begins on a board.
     pub is_on_board: bool,
+    /// How many steps of seats a call begins with on a board, in each order; 0 if it does not.
+    pub steps: u64,
     /// Whether the machines of the call go on threads to the first pause.
     pub has_threads: bool,
 }
@@ -56,11 +58,12 @@ enum Part {
     Failures,
     Driven,
     Board,
+    Steps,
     Threads,
 }
 
 /// Each of them with its word.
-static PARTS: [(&str, Part); 22] = [
+static PARTS: [(&str, Part); 23] = [
     ("given", Part::Heading),
     ("scenario", Part::Heading),
     ("vertices", Part::Vertices),
@@ -82,6 +85,7 @@ static PARTS: [(&str, Part); 22] = [
     ("failures", Part::Failures),
     ("driven", Part::Driven),
     ("board", Part::Board),
+    ("steps", Part::Steps),
     ("threads", Part::Threads),
 ];
 
@@ -130,6 +134,7 @@ impl Plan {
             failures: Vec::new(alloc),
             is_call: false,
             is_on_board: false,
+            steps: 0,
             has_threads: false,
         }
     }
@@ -173,6 +178,7 @@ impl Plan {
             Part::Tickets => self.tickets = number,
             Part::Driven => self.is_call = true,
             Part::Board => self.is_on_board = true,
+            Part::Steps => self.steps = number,
             Part::Threads => self.has_threads = true,
             _ => self.run(Algorithm::Components, 0),
         }
