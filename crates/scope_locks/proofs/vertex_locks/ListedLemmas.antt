@@ -1,5 +1,5 @@
 -- Which locks would be granted, and which vertices are listed.
-use Rattle.std.proofs.Common.{◌≡◌, ◌≢◌, ℕ, zero, suc, ◌<◌, Bool, true, false, Option, None, Some, is_some, List, [], ◌∷◌, ◌++◌, drop, length, IfSome, slice_index, slice_index_or, slice_set, if◌then◌else◌, refl, sym, ◌∙◌, ap, subst, ⊎_elim, arith, eq-eqb, ne_eqb}
+use Rattle.std.proofs.Common.{◌≡◌, ◌≢◌, ℕ, zero, suc, ◌<◌, ◌≤◌, Bool, true, false, Option, None, Some, is_some, List, [], ◌∷◌, ◌++◌, drop, length, IfSome, slice_index, slice_index_or, slice_set, if◌then◌else◌, refl, sym, ◌∙◌, ap, subst, ⊎_elim, arith, eq-eqb, ne_eqb}
 use Rattle.std.specs.List.{sum_by}
 use Rattle.std.proofs.lemmas.Bool.{cases_eq, true≢false, lt-ltb}
 use Rattle.std.proofs.lemmas.List.{get_or-set_same, get_or-set_other, get_or_default, length-map}
@@ -9,7 +9,9 @@ use Rattle.gl_base.specs.declared.scopes.Claim.{Claim}
 use Rattle.gl_base.specs.declared.scopes.ScopeId.{ScopeId}
 use Rattle.task_sets.specs.vertex_queue.Flags.{is_flagged}
 use Rattle.scope_locks.specs.vertex_locks.Locks.{LockView, IsNext, mode_of}
-use Rattle.scope_locks.specs.vertex_locks.Inner.KeptTables.{ArePlacesApart, ListsGrantable, IsFree, IsListedAgain, IsTable}
+use Rattle.scope_locks.specs.vertex_locks.Inner.KeptLists.{locks_in}
+use Rattle.scope_locks.specs.declared.vertex_locks.lists.LockList.{LockList}
+use Rattle.scope_locks.specs.vertex_locks.Inner.KeptTables.{ArePlacesApart, ListsGrantable, IsCountedTable, IsFree, IsListedAgain, IsTable, count_claimed}
 use Rattle.scope_locks.specs.vertex_locks.Tables.{is_owned, holder_at, queue_at, lock_at, lock_there, table_of, no_lock, HasAsked, HasGranted, HasReleased, HasRoomFor, HasTaken, HasTakenFree, asked_at, IsGrantable, IsTurn, IsUnclaimed}
 use Rattle.scope_locks.specs.declared.vertex_locks.turns.Turn.{Turn}
 use Rattle.scope_locks.specs.declared.vertex_locks.turns.Turn.TheVariants.{Granted, Waiting}
@@ -219,7 +221,7 @@ none_grantable table flags are none x can = true≢false (sym (are.waits x can.c
 -- ---- whether a lock would be granted
 
 -- what is read at the place of x is its lock
-pub read_there : (places : List ℕ) (locks : List LockView) (x : ℕ) (l : LockView) → is_owned (table_of places locks) x ≡ true → l ≡ slice_index_or locks (slice_index places x) l → l ≡ lock_at (table_of places locks) x
+pub read_there : (places : List ℕ) (locks : List LockView) (x : ℕ) (l : LockView) → is_owned (table_of places locks) x ≡ true → l ≡ slice_index_or locks (slice_index places x) no_lock → l ≡ lock_at (table_of places locks) x
 read_there places locks x l owned read =
     let p = slice_index places x in
     is_read places locks (table_of places locks) x p l refl owned (sym (get_or_default places x p 0 (is_placed places locks x owned).vertex)) read
@@ -234,3 +236,13 @@ none_where (Some c) is = absurd (true≢false is)
 
 pub grants_none : (table : List (Option LockView)) (x : ℕ) (l : LockView) (o : Option Claim) → l ≡ lock_at table x → (o ≡ None → (c : Claim) → IsNext (mode_of l.holders) l.queue c → ⊥) → is_some o ≡ false → IsGrantable table x → ⊥
 grants_none table x l o read none not can = none (none_where o not) can.claim (subst (λ (k : LockView). IsNext (mode_of k.holders) k.queue can.claim) (sym read) can.next)
+
+-- ---- more locks are kept
+
+pub made_more : (places : List ℕ) (old new : LockList) (flags : List Bool) (claimed : ℕ) → locks_in new ≡ locks_in old → length new.kept.items ≤ new.many → new.free ≡ old.free → IsCountedTable places old flags claimed → IsCountedTable places new flags claimed
+made_more places old new flags claimed same few free is = record {
+  table = subst (λ (locks : List LockView). IsTable places locks flags) (sym same) is.table;
+  counted = is.counted ∙ sym (ap (λ (locks : List LockView). count_claimed (table_of places locks)) same);
+  few = few;
+  free = free ∙ is.free;
+}

@@ -69,27 +69,23 @@ room_reset places old new more x = ⊎_elim
 
 -- ---- a table that is made
 
--- the first i of these vertices have their places and locks
-pub record AreSet (owned : List Vertex) (count i : ℕ) (places : List ℕ) (locks : List LockView) : Type 0 where
+-- the first i of these vertices have their places
+pub record AreSet (owned : List Vertex) (count i : ℕ) (places : List ℕ) : Type 0 where
   pub many : length places ≡ count
-  pub locks_many : length locks ≡ i
   pub back : (x : ℕ) (d : Vertex) → x < count → slice_index places x < i → (slice_index_or owned (slice_index places x) d).0 ≡ x
   pub there : (k : ℕ) (d : Vertex) → k < i → slice_index places (slice_index_or owned k d).0 < i
   pub none : (x : ℕ) → x < count → i ≤ slice_index places x → slice_index places x ≡ 4294967295
-  pub free : (k : ℕ) → IsFree (slice_index_or locks k no_lock)
 
--- one vertex more got its place, and a free lock there
-pub set_more : (owned : List Vertex) (count i : ℕ) (places : List ℕ) (locks : List LockView) (v : Vertex) (l : LockView) → AreSet owned count i places locks
-    → v ≡ get_or owned i v → i < length owned → length owned ≤ count → count < 4294967296 → v.0 < count → IsFree l → AreSet owned count (i + 1) (slice_set places v.0 i) (locks ++ l ∷ [])
-set_more owned count i places locks v l is read within few small below free =
+-- one vertex more got its place
+pub set_more : (owned : List Vertex) (count i : ℕ) (places : List ℕ) (v : Vertex) → AreSet owned count i places
+    → v ≡ get_or owned i v → i < length owned → length owned ≤ count → count < 4294967296 → v.0 < count → AreSet owned count (i + 1) (slice_set places v.0 i)
+set_more owned count i places v is read within few small below =
     let many = is.many in
-    let locks_many = is.locks_many in
     let here : slice_index (slice_set places v.0 i) v.0 ≡ i = get_or-set_same places v.0 i 0 (omega arith) in
     let there : (x : ℕ) → x ≢ v.0 → slice_index (slice_set places v.0 i) x ≡ slice_index places x = λ x other. get_or-set_other places v.0 x i 0 other in
     let named : (d : Vertex) → (slice_index_or owned i d).0 ≡ v.0 = λ d. ap (λ (u : Vertex). u.0) (sym (read ∙ get_or_default owned i v d within)) in
     record {
       many = length-set places v.0 i ∙ many;
-      locks_many = length_push locks l ∙ ap (λ (n : ℕ). n + 1) locks_many;
       back = λ x d early placed. ⊎_elim
           (λ (same : x ≡ v.0).
           let at : slice_index (slice_set places v.0 i) x ≡ i = ap (slice_index (slice_set places v.0 i)) same ∙ here in
@@ -121,19 +117,11 @@ set_more owned count i places locks v l is read within few small below free =
           let at = there x other in
           at ∙ is.none x early (omega (arith, at, past)))
           (cases_eq x v.0);
-      free = λ k. ⊎_elim
-          (λ (lt : k < length locks). subst IsFree (sym (get_or_append_left locks (l ∷ []) no_lock k lt)) (is.free k))
-          (λ (le : length locks ≤ k). ⊎_elim
-          (λ (same : k ≡ length locks). subst IsFree (sym (get_or_push locks l no_lock k (sym same))) free)
-          (λ (apart : k ≢ length locks). subst IsFree (sym (get_or_past (locks ++ l ∷ []) k no_lock (let long = length_push locks l in omega (arith, long, le, apart)))) (refl, refl))
-          (cases_eq k (length locks)))
-          (cases_lt k (length locks));
     }
 
-pub made_apart : (owned : List Vertex) (count i : ℕ) (places : List ℕ) (locks : List LockView) → AreSet owned count i places locks → ArePlacesApart places (length locks)
-made_apart owned count i places locks is = λ x y below above early same.
+pub made_apart : (owned : List Vertex) (count i : ℕ) (places : List ℕ) (locks : List LockView) → length locks ≡ i → AreSet owned count i places → ArePlacesApart places (length locks)
+made_apart owned count i places locks locks_many is = λ x y below above early same.
     let many = is.many in
-    let locks_many = is.locks_many in
     let d : Vertex = record { 0 = 0 } in
     let one = is.back x d (omega arith) (omega arith) in
     let other = is.back y d (omega arith) (omega arith) in
@@ -144,11 +132,10 @@ same_truth true b to back = sym (to refl)
 same_truth false true to back = back refl
 same_truth false false to back = refl
 
-pub made_owned : (owned : List Vertex) (count i : ℕ) (places : List ℕ) (locks : List LockView) → AreSet owned count i places locks → i ≡ length owned → All (λ v. v.0 < count) owned
+pub made_owned : (owned : List Vertex) (count i : ℕ) (places : List ℕ) (locks : List LockView) → length locks ≡ i → AreSet owned count i places → i ≡ length owned → All (λ v. v.0 < count) owned
     → (x : ℕ) → is_owned (table_of places locks) x ≡ list_any (λ v. v.0 == x) owned
-made_owned owned count i places locks is whole below x =
+made_owned owned count i places locks locks_many is whole below x =
     let many = is.many in
-    let locks_many = is.locks_many in
     same_truth (is_owned (table_of places locks) x) (list_any (λ v. v.0 == x) owned)
     (λ yes. ⊎_elim
     (λ (within : x < length places).

@@ -1,7 +1,7 @@
 -- What becomes of a table where one lock is written.
-use Rattle.std.proofs.Common.{◌≡◌, ◌≢◌, ℕ, ◌<◌, ◌≤◌, Bool, true, false, Option, Some, None, is_some, option_map, List, length, slice_index, slice_index_or, slice_set, if◌then◌else◌, refl, sym, ◌∙◌, ap, subst, ⊎_elim, arith, eq-eqb, ne_eqb}
+use Rattle.std.proofs.Common.{◌≡◌, ◌≢◌, ℕ, suc, ◌+◌, ◌-◌, [], ◌∷◌, ◌++◌, replicate, append_assoc, ◌<◌, ◌≤◌, Bool, true, false, Option, Some, None, is_some, option_map, List, length, slice_index, slice_index_or, slice_set, if◌then◌else◌, refl, sym, ◌∙◌, ap, subst, ⊎_elim, arith, eq-eqb, ne_eqb}
 use Rattle.std.proofs.lemmas.Bool.{cases_lt, cases_eq, true≢false, lt-ltb, le-ltb}
-use Rattle.std.proofs.lemmas.List.{length-map, get_or-map, get_or-set_same, get_or-set_other, get_or_default, get_or_past, same_lists, set-get_or, set-set}
+use Rattle.std.proofs.lemmas.List.{length-map, length_push, get_or_append_left, get_or-append_right, get_or-replicate, set-append_left, length-append, length-replicate, get_or-map, get_or-set_same, get_or-set_other, get_or_default, get_or_past, same_lists, set-get_or, set-set}
 use Rattle.std.proofs.Math.ListN.{length-set}
 use Rattle.gl_base.specs.declared.scopes.Claim.{Claim}
 use Rattle.gl_base.specs.declared.scopes.Mode.{Mode}
@@ -10,7 +10,8 @@ use Rattle.gl_base.specs.scope_lists.Scopes.{is_scope, set_for, set_at}
 use Rattle.gl_base.specs.scope_lists.Found.{by_scope}
 use Rattle.scope_locks.specs.vertex_locks.Inner.KeptLocks.{requested, IsTaken, IsReleased, SameClaims}
 use Rattle.scope_locks.specs.vertex_locks.Locks.{has, IsFreeLock, LockView, claimant, mode_of}
-use Rattle.scope_locks.specs.vertex_locks.Inner.KeptTables.{ArePlacesApart}
+use Rattle.scope_locks.specs.vertex_locks.Inner.KeptLists.{all_locks}
+use Rattle.scope_locks.specs.vertex_locks.Inner.KeptTables.{ArePlacesApart, IsFree}
 use Rattle.scope_locks.specs.vertex_locks.Tables.{no_lock, lock_or, lock_at, is_owned, holder_at, queue_at, room_at, HasAsked, HasTaken, HasTakenFree, HasReleased, HasRoomFor, lock_there, table_of}
 
 -- l for the lock of x
@@ -75,13 +76,94 @@ table_set places locks x l apart is =
     (cases_eq y x))
 
 -- what is read at the place of x is the lock of x
-pub is_read : (places : List ℕ) (locks : List LockView) (table : List (Option LockView)) (x p : ℕ) (old : LockView) → table_of places locks ≡ table → is_owned table x ≡ true → p ≡ slice_index_or places x p → old ≡ slice_index_or locks p old → old ≡ lock_at table x
+pub is_read : (places : List ℕ) (locks : List LockView) (table : List (Option LockView)) (x p : ℕ) (old : LockView) → table_of places locks ≡ table → is_owned table x ≡ true → p ≡ slice_index_or places x p → old ≡ slice_index_or locks p no_lock → old ≡ lock_at table x
 is_read places locks table x p old seen owned at read =
     let is = is_placed places locks x (ap (λ t. is_owned t x) seen ∙ owned) in
     let place : p ≡ slice_index places x = at ∙ get_or_default places x p 0 is.vertex in
-    let inside : p < length locks = let i = is.place in omega arith in
     let lock : lock_at (table_of places locks) x ≡ slice_index_or locks p no_lock = ap lock_or is.lock ∙ ap (λ n. slice_index_or locks n no_lock) (sym place) in
-    read ∙ (get_or_default locks p old no_lock inside ∙ (sym lock ∙ ap (λ t. lock_at t x) seen))
+    read ∙ (sym lock ∙ ap (λ t. lock_at t x) seen)
+
+-- where x has a lock, its place is one of those
+pub is_within : (places : List ℕ) (locks : List LockView) (table : List (Option LockView)) (x p : ℕ) → table_of places locks ≡ table → is_owned table x ≡ true → p ≡ slice_index_or places x p → p < length locks
+is_within places locks table x p seen owned at =
+    let is = is_placed places locks x (ap (λ t. is_owned t x) seen ∙ owned) in
+    let place : p ≡ slice_index places x = at ∙ get_or_default places x p 0 is.vertex in
+    let inside = is.place in omega arith
+
+-- ---- locks of which the last aren't kept
+
+pub all_many : (kept : List LockView) (many : ℕ) → length kept ≤ many → length (all_locks kept many) ≡ many
+all_many kept many few =
+    let long = length-append kept (replicate (many - length kept) no_lock) in
+    let rest = length-replicate (many - length kept) no_lock in
+    omega arith
+
+-- one that is kept is written
+pub kept_set : (kept : List LockView) (many p : ℕ) (l : LockView) → p < length kept → all_locks (slice_set kept p l) many ≡ slice_set (all_locks kept many) p l
+kept_set kept many p l inside =
+    ap (λ n. slice_set kept p l ++ replicate (many - n) no_lock) (length-set kept p l)
+    ∙ sym (set-append_left kept (replicate (many - length kept) no_lock) p l inside)
+
+pub kept_at : (kept : List LockView) (many p : ℕ) → p < length kept → slice_index_or (all_locks kept many) p no_lock ≡ slice_index_or kept p no_lock
+kept_at kept many p inside = get_or_append_left kept (replicate (many - length kept) no_lock) no_lock p inside
+
+-- what is read of those that are kept is read of all
+pub kept_read : (kept : List LockView) (many p : ℕ) (old : LockView) → p < length kept → old ≡ slice_index_or kept p old → old ≡ slice_index_or (all_locks kept many) p no_lock
+kept_read kept many p old inside read = read ∙ (get_or_default kept p old no_lock inside ∙ sym (kept_at kept many p inside))
+
+pub free_in : (n i : ℕ) → slice_index_or (replicate n no_lock) i no_lock ≡ no_lock
+free_in n i = ⊎_elim
+    (λ (inside : i < n). get_or-replicate n i no_lock no_lock inside)
+    (λ (past : n ≤ i). get_or_past (replicate n no_lock) i no_lock (let long = length-replicate n no_lock in omega arith))
+    (cases_lt i n)
+
+-- one that isn't kept is free
+pub free_at : (kept : List LockView) (many p : ℕ) → length kept ≤ p → slice_index_or (all_locks kept many) p no_lock ≡ no_lock
+free_at kept many p past = get_or-append_right kept (replicate (many - length kept) no_lock) (length kept) p no_lock refl past ∙ free_in (many - length kept) (p - length kept)
+
+-- as many are kept, and so there are as many
+pub all_long : (old new : List LockView) (many : ℕ) → length new ≡ length old → length (all_locks new many) ≡ length (all_locks old many)
+all_long old new many same =
+    length-append new (replicate (many - length new) no_lock) ∙ ((λ i. same i + length (replicate (many - same i) no_lock)) ∙ sym (length-append old (replicate (many - length old) no_lock)))
+
+-- where nobody claims one that is kept, nobody claims one
+pub all_free : (kept : List LockView) (many : ℕ) → ((k : ℕ) → IsFree (slice_index_or kept k no_lock)) → (k : ℕ) → IsFree (slice_index_or (all_locks kept many) k no_lock)
+all_free kept many free k = ⊎_elim
+    (λ (inside : k < length kept). subst IsFree (sym (kept_at kept many k inside)) (free k))
+    (λ (past : length kept ≤ k). subst IsFree (sym (free_at kept many k past)) (refl, refl))
+    (cases_lt k (length kept))
+
+pub all_room : (old new : List LockView) (many : ℕ) → length new ≡ length old → ((k : ℕ) → (slice_index_or old k no_lock).room ≤ (slice_index_or new k no_lock).room) → (k : ℕ) → (slice_index_or (all_locks old many) k no_lock).room ≤ (slice_index_or (all_locks new many) k no_lock).room
+all_room old new many same more k = ⊎_elim
+    (λ (inside : k < length old).
+    let was = ap (λ (l : LockView). l.room) (kept_at old many k inside) in
+    let is = ap (λ (l : LockView). l.room) (kept_at new many k (omega arith)) in
+    let most = more k in omega arith)
+    (λ (past : length old ≤ k).
+    let was = ap (λ (l : LockView). l.room) (free_at old many k past) in omega arith)
+    (cases_lt k (length old))
+
+-- one more is kept
+pub all_more : (kept : List LockView) (many : ℕ) → length kept < many → all_locks (kept ++ no_lock ∷ []) many ≡ all_locks kept many
+all_more kept many few =
+    let n = many - length kept - 1 in
+    let long = length_push kept no_lock in
+    let less : many - length (kept ++ no_lock ∷ []) ≡ n = omega arith in
+    let more : many - length kept ≡ suc n = omega arith in
+    ap (λ k. (kept ++ no_lock ∷ []) ++ replicate k no_lock) less ∙ (append_assoc kept (no_lock ∷ []) (replicate n no_lock) ∙ sym (ap (λ k. kept ++ replicate k no_lock) more))
+
+-- where there is room, the lock is kept
+pub has_kept : (places : List ℕ) (kept : List LockView) (many : ℕ) (table : List (Option LockView)) (x p : ℕ) → table_of places (all_locks kept many) ≡ table → is_owned table x ≡ true → p ≡ slice_index_or places x p → 0 < room_at table x → p < length kept
+has_kept places kept many table x p seen owned at room = ⊎_elim
+    (λ (inside : p < length kept). inside)
+    (λ (past : length kept ≤ p).
+    let none = ap (λ (l : LockView). l.room) (is_read places (all_locks kept many) table x p no_lock seen owned at (sym (free_at kept many p past))) in
+    absurd (omega (arith, none, room)))
+    (cases_lt p (length kept))
+
+-- where it isn't, nobody claims it
+pub is_none : (places : List ℕ) (kept : List LockView) (many : ℕ) (table : List (Option LockView)) (x p : ℕ) → table_of places (all_locks kept many) ≡ table → is_owned table x ≡ true → p ≡ slice_index_or places x p → length kept ≤ p → no_lock ≡ lock_at table x
+is_none places kept many table x p seen owned at past = is_read places (all_locks kept many) table x p no_lock seen owned at (sym (free_at kept many p past))
 
 -- one lock is written, which is the lock of x
 pub record IsWritten (places : List ℕ) (table : List (Option LockView)) (x : ℕ) (was : LockView) (after : List LockView) (l : LockView) : Type 0 where
@@ -89,17 +171,21 @@ pub record IsWritten (places : List ℕ) (table : List (Option LockView)) (x : �
   pub old : was ≡ lock_at table x
   pub new : table_of places after ≡ with_lock table x l
 
-pub is_written : (places : List ℕ) (locks : List LockView) (table : List (Option LockView)) (x p : ℕ) (old l : LockView)
-    → table_of places locks ≡ table → is_owned table x ≡ true → ArePlacesApart places (length locks) → p ≡ slice_index_or places x p → old ≡ slice_index_or locks p old
-    → IsWritten places table x old (slice_set locks p l) l
-is_written places locks table x p old l seen owned apart at read =
+pub is_written : (places : List ℕ) (kept : List LockView) (many : ℕ) (table : List (Option LockView)) (x p : ℕ) (old l : LockView)
+    → table_of places (all_locks kept many) ≡ table → is_owned table x ≡ true → ArePlacesApart places (length (all_locks kept many)) → p ≡ slice_index_or places x p → p < length kept → old ≡ slice_index_or kept p old
+    → IsWritten places table x old (all_locks (slice_set kept p l) many) l
+is_written places kept many table x p old l seen owned apart at inside read =
+    let locks = all_locks kept many in
     let is = is_placed places locks x (ap (λ t. is_owned t x) seen ∙ owned) in
     let place : p ≡ slice_index places x = at ∙ get_or_default places x p 0 is.vertex in
     record {
       owned = owned;
-      old = is_read places locks table x p old seen owned at read;
-      new = ap (λ n. table_of places (slice_set locks n l)) place ∙ (table_set places locks x l apart is ∙ ap (λ t. with_lock t x l) seen);
+      old = is_read places locks table x p old seen owned at (kept_read kept many p old inside read);
+      new = ap (table_of places) (kept_set kept many p l inside) ∙ (ap (λ n. table_of places (slice_set locks n l)) place ∙ (table_set places locks x l apart is ∙ ap (λ t. with_lock t x l) seen));
     }
+
+pub many_set : (kept : List LockView) (many p : ℕ) (l : LockView) → p < length kept → length (all_locks (slice_set kept p l) many) ≡ length (all_locks kept many)
+many_set kept many p l inside = ap length (kept_set kept many p l inside) ∙ length-set (all_locks kept many) p l
 
 -- ---- look-ups after a write
 

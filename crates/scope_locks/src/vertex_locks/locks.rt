@@ -5,6 +5,7 @@ ghost use Rattle.std.specs.Vec.{vec_capacity};
 ghost use Rattle.gl_base.specs.declared.scopes.Claim.{Claim};
 ghost use Rattle.gl_base.specs.scope_lists.Scopes.{is_scope};
 ghost use Rattle.scope_locks.specs.vertex_locks.Locks.{LockView, has, mode_of, released, IsNext, IsFreeLock, WritesAlone, WaitOnce};
+ghost use Rattle.scope_locks.specs.vertex_locks.Tables.{no_lock};
 ghost use Rattle.gl_base.specs.scope_lists.Scopes.{GoTogether};
 ghost use Rattle.scope_locks.specs.vertex_locks.Inner.KeptLocks.{IsLock, requested, IsTaken, IsReleased, SameClaims, claimed_once, counted_if};
 
@@ -34,10 +35,9 @@ impl Model for Lock {
 }
 
 impl Lock {
-    /// A lock that nobody claims.
+    /// A lock that nobody claims, without room.
     pub fn free(alloc: Global) -> Lock
-        ensures holders { result.holders ≡ [] }
-        ensures queue { result.queue ≡ [] }
+        ensures { result ≡ no_lock }
     {
         Lock {
             claims: Vec::new(alloc),

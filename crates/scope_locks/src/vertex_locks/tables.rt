@@ -3,8 +3,10 @@ ghost use Rattle.std.specs.Prelude.{◌≡◌, ℕ, ◌+◌, ◌<◌, ◌≤◌,
 ghost use Rattle.std.specs.List.{All, list_any};
 ghost use Rattle.scope_locks.specs.vertex_locks.Locks.{has, IsFreeLock, WritesAlone, WaitOnce};
 ghost use Rattle.scope_locks.specs.vertex_locks.Tables.{is_owned, holder_at, queue_at, room_at, HasAsked, HasTaken, HasTakenFree, HasReleased, released_at, HasRoomFor, HasGranted, IsUnclaimed, IsTurn, IsGrantable, no_lock};
+ghost use Rattle.scope_locks.specs.vertex_locks.Inner.KeptLists.{locks_in};
 ghost use Rattle.scope_locks.specs.vertex_locks.Inner.KeptTables.{IsFree, IsListedAgain, IsTable, table_of};
 
+use crate::vertex_locks::lists::LockList;
 use crate::vertex_locks::locks::Lock;
 use crate::vertex_locks::turns::Turn;
 use gl_base::{Claim, NoMemory, ScopeId, Vertex};
@@ -16,11 +18,12 @@ use task_sets::vertex_queue::VertexQueue;
 /// for it. Contracts see whether a vertex has a lock, how each scope holds it, who waits for it,
 /// and for how many more claims there is room. A vertex is listed where a claim came to its lock,
 /// or one went for which others wait, until a look finds that nothing would be granted there. How
-/// many locks somebody claims is counted.
+/// many locks somebody claims is counted. Locks behind the highest place where room was made are not
+/// kept: nobody claims them.
 #[derive(Drop)]
 pub struct LockTable {
     places: Vec<u32>,
-    locks: Vec<Lock>,
+    locks: LockList,
     listed: VertexQueue,
     claimed: usize,
 }
@@ -28,14 +31,15 @@ pub struct LockTable {
 impl Model for LockTable {
     ghost use Rattle.std.specs.Prelude.{List, Option};
     ghost use Rattle.scope_locks.specs.vertex_locks.Locks.{LockView};
+    ghost use Rattle.scope_locks.specs.vertex_locks.Inner.KeptLists.{locks_in};
     ghost use Rattle.scope_locks.specs.vertex_locks.Inner.KeptTables.{IsCountedTable};
     ghost use Rattle.scope_locks.specs.vertex_locks.Tables.{table_of};
 
     ghost Value = { List (Option LockView) };
 
-    ghost view = { λ t. table_of t.places.items t.locks.items };
+    ghost view = { λ t. table_of t.places.items (locks_in t.locks) };
 
-    ghost invariant = { λ t. IsCountedTable t.places.items t.locks.items t.listed t.claimed };
+    ghost invariant = { λ t. IsCountedTable t.places.items t.locks t.listed t.claimed };
 }
 
 impl LockTable {
@@ -48,15 +52,13 @@ impl LockTable {
         ensures free { IfOk result IsUnclaimed }
     {
         let mut places = Vec::from_elem(alloc, u32::MAX, count as usize)?;
-        let mut locks = Vec::with_capacity(alloc, owned.len())?;
         for (place, vertex) in owned.iter().enumerate() {
             places[vertex.0 as usize] = place as u32;
-            locks.push_reserved(Lock::free(alloc));
         }
         let listed = VertexQueue::none(alloc, count)?;
         Ok(LockTable {
             places,
-            locks,
+            locks: LockList::free(alloc, owned.len()),
             listed,
             claimed: 0,
         })
@@ -68,7 +70,7 @@ impl LockTable {
         ensures { result ≡ is_owned self.now x.0 }
     {
         match self.places.get(x.0 as usize) {
-            Some(place) => (*place as usize) < self.locks.len(),
+            Some(place) => (*place as usize) < self.locks.many,
             None => false,
         }
     }
@@ -81,7 +83,8 @@ impl LockTable {
         ensures same { HasRoomFor self.old self.new x.0 }
     {
         let place = self.places[x.0 as usize] as usize;
-        self.locks[place].reserve()
+        self.locks.make(place)?;
+        self.locks.kept[place].reserve()
     }
 
     /// The claim waits for the lock of x behind the others, and takes up room for one.
@@ -94,7 +97,7 @@ impl LockTable {
         ensures { HasAsked self.old self.new x.0 claim }
     {
         let place = self.places[x.0 as usize] as usize;
-        let only = self.locks[place].request(claim);
+        let only = self.locks.kept[place].request(claim);
         self.listed.add(x);
         self.claimed += usize::from(only);
     }
@@ -110,7 +113,10 @@ impl LockTable {
         ensures same { result ≡ false → self.new ≡ self.old }
     {
         let place = self.places[x.0 as usize] as usize;
-        let only = self.locks[place].take(claim);
+        if place >= self.locks.kept.len() {
+            return false;
+        }
+        let only = self.locks.kept[place].take(claim);
         self.claimed += usize::from(only);
         only
     }
@@ -121,7 +127,7 @@ impl LockTable {
         ensures { result ≡ is_some (holder_at self.now x.0 scope) }
     {
         let place = self.places[x.0 as usize] as usize;
-        self.locks[place].holds(scope)
+        self.locks.at(place).holds(scope)
     }
 
     /// Whether the scope waits for the lock of x.
@@ -130,7 +136,7 @@ impl LockTable {
         ensures { result ≡ has scope (queue_at self.now x.0) }
     {
         let place = self.places[x.0 as usize] as usize;
-        self.locks[place].waits(scope)
+        self.locks.at(place).waits(scope)
     }
 
     /// Whether nobody claims a lock. It looks at none.
@@ -150,7 +156,7 @@ impl LockTable {
             IsFreeLock (holder_at self.now x.0) (queue_at self.now x.0) → ⊥ }
     {
         let place = self.places[x.0 as usize] as usize;
-        self.locks[place].is_free()
+        self.locks.at(place).is_free()
     }
 
     /// What `grant` would answer.
@@ -162,7 +168,7 @@ impl LockTable {
         ensures once { WaitOnce (holder_at self.now x.0) (queue_at self.now x.0) }
     {
         let place = self.places[x.0 as usize] as usize;
-        match self.locks[place].next() {
+        match self.locks.at(place).next() {
             Some(claim) => Turn::Granted(claim),
             None => Turn::Waiting,
         }
@@ -176,7 +182,10 @@ impl LockTable {
         ensures change { HasGranted self.old self.new x.0 result }
     {
         let place = self.places[x.0 as usize] as usize;
-        match self.locks[place].grant() {
+        if place >= self.locks.kept.len() {
+            return Turn::Waiting;
+        }
+        match self.locks.kept[place].grant() {
             Some(claim) => Turn::Granted(claim),
             None => Turn::Waiting,
         }
@@ -201,9 +210,12 @@ impl LockTable {
         ensures exact { self.new ≡ released_at self.old x.0 scope }
     {
         let place = self.places[x.0 as usize] as usize;
-        let last = self.locks[place].release(scope);
+        if place >= self.locks.kept.len() {
+            return;
+        }
+        let last = self.locks.kept[place].release(scope);
         self.claimed -= usize::from(last);
-        list_waiting(&mut self.listed, &self.locks[place], x);
+        list_waiting(&mut self.listed, &self.locks.kept[place], x);
     }
 
     /// Nobody claims a lock any more, as after `new`. The room stays. It takes time for each lock.
@@ -212,7 +224,7 @@ impl LockTable {
         ensures free { IsUnclaimed self.new }
         ensures room { (y : ℕ) → room_at self.old y ≤ room_at self.new y }
     {
-        reset_all(&mut self.locks);
+        reset_all(&mut self.locks.kept);
         self.claimed = 0;
     }
 }
@@ -229,11 +241,12 @@ fn list_waiting(listed: &mut VertexQueue, lock: &Lock, x: Vertex)
 
 /// The first of the listed vertices whose lock would be granted. Those before it are listed no
 /// more.
-fn first_listed(places: &[u32], locks: &[Lock], listed: &mut VertexQueue) -> Option<Vertex>
-    requires { IsTable places.now locks.now listed.old }
-    ensures next { MatchOption result ((x : ℕ) → IsGrantable (table_of places.now locks.now) x →
-        ⊥) (λ x. IsGrantable (table_of places.now locks.now) x.0) }
-    ensures kept { IsTable places.now locks.now listed.new }
+fn first_listed(places: &[u32], locks: &LockList, listed: &mut VertexQueue) -> Option<Vertex>
+    requires free { locks.now.free ≡ no_lock }
+    requires table { IsTable places.now (locks_in locks.now) listed.old }
+    ensures next { MatchOption result ((x : ℕ) → IsGrantable (table_of places.now (locks_in locks.now)) x →
+        ⊥) (λ x. IsGrantable (table_of places.now (locks_in locks.now)) x.0) }
+    ensures kept { IsTable places.now (locks_in locks.now) listed.new }
 {
     while let Some(x) = listed.front() {
         if is_grantable(places, locks, x) {
@@ -246,13 +259,14 @@ fn first_listed(places: &[u32], locks: &[Lock], listed: &mut VertexQueue) -> Opt
 
 /// Whether the lock of x would be granted.
 #[inline(always)]
-fn is_grantable(places: &[u32], locks: &[Lock], x: Vertex) -> bool
-    requires { is_owned (table_of places.now locks.now) x.0 ≡ true }
-    ensures yes { result ≡ true → IsGrantable (table_of places.now locks.now) x.0 }
-    ensures not { result ≡ false → IsGrantable (table_of places.now locks.now) x.0 → ⊥ }
+fn is_grantable(places: &[u32], locks: &LockList, x: Vertex) -> bool
+    requires free { locks.now.free ≡ no_lock }
+    requires owned { is_owned (table_of places.now (locks_in locks.now)) x.0 ≡ true }
+    ensures yes { result ≡ true → IsGrantable (table_of places.now (locks_in locks.now)) x.0 }
+    ensures not { result ≡ false → IsGrantable (table_of places.now (locks_in locks.now)) x.0 → ⊥ }
 {
     let place = places[x.0 as usize] as usize;
-    locks[place].next().is_some()
+    locks.at(place).next().is_some()
 }
 
 /// Nobody claims one of these locks any more.

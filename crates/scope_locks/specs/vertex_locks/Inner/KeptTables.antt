@@ -1,12 +1,14 @@
 -- How a table is kept.
 pub use Rattle.scope_locks.specs.vertex_locks.Tables.{table_of}
-use Rattle.std.specs.Prelude.{◌≡◌, ℕ, ◌<◌, Bool, true, Option, List, [], length, slice_index, slice_set, nat_lt, if◌then◌else◌}
+use Rattle.std.specs.Prelude.{◌≡◌, ℕ, ◌<◌, ◌≤◌, Bool, true, Option, List, [], length, slice_index, slice_set, nat_lt, if◌then◌else◌}
 use Rattle.std.specs.List.{sum_by}
 use Rattle.task_sets.specs.vertex_queue.Flags.{is_flagged}
 use Rattle.gl_base.specs.declared.scopes.Claim.{Claim}
 use Rattle.scope_locks.specs.vertex_locks.Locks.{LockView, IsNext}
 use Rattle.scope_locks.specs.vertex_locks.Inner.KeptLocks.{claimed_once}
-use Rattle.scope_locks.specs.vertex_locks.Tables.{is_owned, holder_at, lock_or, queue_at}
+use Rattle.scope_locks.specs.vertex_locks.Inner.KeptLists.{locks_in}
+use Rattle.scope_locks.specs.declared.vertex_locks.lists.LockList.{LockList}
+use Rattle.scope_locks.specs.vertex_locks.Tables.{is_owned, holder_at, lock_or, no_lock, queue_at}
 
 -- nobody claims this lock
 abbrev pub IsFree : LockView → Type 0
@@ -31,10 +33,12 @@ pub record IsTable (places : List ℕ) (locks : List LockView) (flags : List Boo
 abbrev pub count_claimed : List (Option LockView) → ℕ
 count_claimed table = sum_by (λ o. claimed_once (lock_or o)) table
 
--- such a table, of whose locks so many are claimed
-pub record IsCountedTable (places : List ℕ) (locks : List LockView) (flags : List Bool) (claimed : ℕ) : Type 0 where
-  pub table : IsTable places locks flags
-  pub counted : claimed ≡ count_claimed (table_of places locks)
+-- such a table, of whose locks so many are claimed; no more are kept than there are, and the free one is free
+pub record IsCountedTable (places : List ℕ) (locks : LockList) (flags : List Bool) (claimed : ℕ) : Type 0 where
+  pub table : IsTable places (locks_in locks) flags
+  pub counted : claimed ≡ count_claimed (table_of places (locks_in locks))
+  pub few : length locks.kept.items ≤ locks.many
+  pub free : locks.free ≡ no_lock
 
 -- x is listed where somebody waits, and else the list stays
 abbrev pub IsListedAgain : List Claim → List Bool → ℕ → List Bool → Type 0
