@@ -2,7 +2,7 @@
 use Rattle.std.proofs.Common.{◌≡◌, ◌≢◌, ℕ, ◌==◌, ◌&&◌, Bool, true, false, if◌then◌else◌, Option, None, Some, is_some, List, [], ◌∷◌, ◌++◌, map, length, suc, refl, sym, ◌∙◌, ap, subst, eq-eqb, ne_eqb}
 use Rattle.std.specs.Prelude.{⊤}
 use Rattle.std.specs.List.{AllByRecursion}
-use Rattle.std.proofs.lemmas.Bool.{and_from}
+use Rattle.std.proofs.lemmas.Bool.{and_from, and_parts}
 use Rattle.gl_base.specs.declared.scopes.Claim.{Claim}
 use Rattle.gl_base.specs.declared.scopes.ScopeId.{ScopeId}
 use Rattle.cluster_laws.specs.cluster_core.Messages.{Done, Message}
@@ -17,8 +17,9 @@ use Rattle.cluster_laws.proofs.cluster_places.Seen.{done_stage, staying_stage, w
 use Rattle.full_laws.specs.FullActions.{MayGrantFull}
 use Rattle.full_laws.specs.FullMessages.{FullMessage, Gather, Gift, Give, Home}
 use Rattle.full_laws.specs.FullParts.{FullStand}
-use Rattle.full_laws.specs.FullPlaces.{FullToken, IsGathering, IsGiven, IsGoingHome, ShowsFull, as_token, bare_stand, full_tokens_of, times_among}
+use Rattle.full_laws.specs.FullPlaces.{FullToken, GiveTheirLocks, GivesItsLocks, HoldTheirOwn, IsGathering, IsGiven, IsGoingHome, ShowsFull, as_token, bare_stand, full_tokens_of, times_among}
 use Rattle.full_laws.specs.FullWorlds.{FullWorld, full_way}
+use Rattle.full_laws.specs.Items.{AVertex}
 use Rattle.full_laws.proofs.Mirrors.{IsGiftOf, SameMessage, SameWay, claimant, claims_front, way_append}
 use Rattle.full_laws.proofs.MirrorSteps.{ArePlaced, locking}
 
@@ -249,6 +250,12 @@ module _ (st : Setting) (w : FullWorld) (placed : ArePlaced st w) where
   given_holds s v to is x scoped told =
       (shows_as s (Ends v to) is).holds x ∙ some_if-is (is_in_scope st v x && to (st.owner x)) (mode_at v x) ∙ and_from (is_in_scope st v x) (to (st.owner x)) scoped told
 
+  -- where a scope is given that holds the lock of x, x is in the scope
+  given_inside : (s : ScopeId) (v : ℕ) (to : ℕ → Bool) → stage s ≡ Ends v to → (x : ℕ) → (w.part (st.owner x)).holds x s ≡ true → is_in_scope st v x ≡ true
+  given_inside s v to is x holds =
+      let shown : is_some (some_if (is_in_scope st v x && to (st.owner x)) (mode_at v x)) ≡ true = sym ((shows_as s (Ends v to) is).holds x) ∙ holds in
+      (and_parts (is_in_scope st v x) (to (st.owner x)) (sym (some_if-is (is_in_scope st v x && to (st.owner x)) (mode_at v x)) ∙ shown)).0
+
   -- What is given on the way to machine q is of an update of some vertex, whose scope holds its locks there.
   pub record IsGivenBy (q : ℕ) (s : ScopeId) (gift : Gift) : Type 0 where
     pub centre : ℕ
@@ -283,6 +290,22 @@ module _ (st : Setting) (w : FullWorld) (placed : ArePlaced st w) where
 
   pub givens : (p q : ℕ) → AllByRecursion (IsGivenMessage q) (full_way w p q)
   givens p q = given_each p q (full_way w p q) (gifts_among st q (way c p q) (full_way w p q) (same_ways p q))
+
+  -- what is given has a number of each vertex whose lock the scope holds there, where each machine holds locks of its own vertices
+  gives_locks : HoldTheirOwn st w → (q : ℕ) (f : FullMessage) → IsGivenMessage q f → GivesItsLocks (w.part q) f
+  gives_locks own q (Gather s v rest seen) is = tt
+  gives_locks own q (Home s seen) is = tt
+  gives_locks own q (Give s gift) is = λ x holds.
+      let owned : st.owner x ≡ q = own q x s holds in
+      let here : (w.part (st.owner x)).holds x s ≡ true = subst (λ (b : ℕ). (w.part b).holds x s ≡ true) (sym owned) holds in
+      is.of.whole (AVertex x) (eq-eqb (st.owner x) q owned) (given_inside s is.centre is.to is.stage_is x here)
+
+  all_give_locks : HoldTheirOwn st w → (q : ℕ) (fs : List FullMessage) → AllByRecursion (IsGivenMessage q) fs → AllByRecursion (GivesItsLocks (w.part q)) fs
+  all_give_locks own q [] all = tt
+  all_give_locks own q (f ∷ fs) all = (gives_locks own q f all.0, all_give_locks own q fs all.1)
+
+  pub locks_given : HoldTheirOwn st w → GiveTheirLocks w
+  locks_given own p q = all_give_locks own q (full_way w p q) (givens p q)
 
   -- ---- a scope that waits
 

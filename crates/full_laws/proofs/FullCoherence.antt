@@ -23,7 +23,7 @@ use Rattle.full_laws.specs.FullReplays.{IsFullCoherent, gifts_from}
 use Rattle.full_laws.specs.FullRuns.{IsAllGiven, IsFullRun, IsFullStart}
 use Rattle.full_laws.specs.FullWorlds.{FullWorld}
 use Rattle.full_laws.specs.Items.{IsItem, Item, keeps, number_in}
-use Rattle.full_laws.proofs.FromPlaces.{shows_as, some_if-is, stages_are}
+use Rattle.full_laws.proofs.FromPlaces.{locks_given, shows_as, some_if-is, stages_are}
 use Rattle.full_laws.proofs.FullKeeping.{IsKept, action_keeps}
 use Rattle.full_laws.proofs.FullMaking.{agree}
 use Rattle.full_laws.proofs.Gathering.{gathered_is}
@@ -128,6 +128,7 @@ module _ (st : Setting) (is : IsSetting st) (p : FullUpdate) (w : FullWorld) (st
         placed = start_placed;
         order = [];
         holders = λ a x s t its also. absurd (both_ways ((w.part a).holds x s) (start.holders a x s) its);
+        own = λ a x s its. absurd (both_ways ((w.part a).holds x s) (start.holders a x s) its);
         flights = λ s v flies. absurd (none_not_some v (sym (start.flights s.home.0 s) ∙ flies));
         gathered = record {
           parts = λ a. record {
@@ -169,6 +170,8 @@ coherent st p w kept =
       stage = kept.placed.stage;
       order = kept.order;
       holders = kept.holders;
+      own = kept.own;
+      given = locks_given st w kept.placed kept.own;
       places = record {
         shows = λ s. shows_as st w kept.placed s (kept.placed.stage s) refl;
         stages = stages_are st w kept.placed;

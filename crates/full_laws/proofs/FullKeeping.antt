@@ -17,7 +17,7 @@ use Rattle.full_laws.specs.FullActions.{Admits, Delivers, FullAction, Grants, Ma
 use Rattle.full_laws.specs.FullEffects.{admitted_full, flies_full, gathers, granted_first, granted_full, lent_full, locks_full, moves_full, no_numbers, received_full, released_full, scope_of, takes_gift}
 use Rattle.full_laws.specs.FullMessages.{FullMessage, Gather, Gift, Give, Home, gifts_of}
 use Rattle.full_laws.specs.FullParts.{FullPart, FullStand}
-use Rattle.full_laws.specs.FullPlaces.{HaveOneHolder, IsSeen, to_gather}
+use Rattle.full_laws.specs.FullPlaces.{HaveOneHolder, HoldTheirOwn, IsSeen, to_gather}
 use Rattle.full_laws.specs.FullReplays.{IsFullReplay}
 use Rattle.full_laws.specs.FullWorlds.{FullWorld, number_at, with_full_part}
 use Rattle.full_laws.specs.Items.{AVertex, keeps, number_in}
@@ -38,6 +38,7 @@ pub record IsKept (st : Setting) (p : FullUpdate) (w : FullWorld) : Type 0 where
   pub placed : ArePlaced st w
   pub order : List Entry
   pub holders : HaveOneHolder w
+  pub own : HoldTheirOwn st w
   pub flights : FlightsAreTasks w
   pub gathered : AreTrue (to_gather st w) w
   pub replay : IsFullReplay st p w order
@@ -50,6 +51,13 @@ fewer_holders w new back one b y s t its also = one b y s t (back b y s its) (ba
 
 same_holders : (w new : FullWorld) → ((b : ℕ) → (new.part b).holds ≡ (w.part b).holds) → HaveOneHolder w → HaveOneHolder new
 same_holders w new same one = fewer_holders w new (λ b y t its. (λ k. sym (same b) k y t) ∙ its) one
+
+-- and each is of one of the machine's vertices, as it was
+fewer_own : (st : Setting) (w new : FullWorld) → ((b y : ℕ) (t : ScopeId) → (new.part b).holds y t ≡ true → (w.part b).holds y t ≡ true) → HoldTheirOwn st w → HoldTheirOwn st new
+fewer_own st w new back own b y t its = own b y t (back b y t its)
+
+same_own : (st : Setting) (w new : FullWorld) → ((b : ℕ) → (new.part b).holds ≡ (w.part b).holds) → HoldTheirOwn st w → HoldTheirOwn st new
+same_own st w new same own = fewer_own st w new (λ b y t its. (λ k. sym (same b) k y t) ∙ its) own
 
 released_less : (holds : ℕ → ScopeId → Bool) (s : ScopeId) (y : ℕ) (t : ScopeId) → released_full s holds y t ≡ true → holds y t ≡ true
 released_less holds s y t = set_for-holds (λ t b. b ≡ true → holds y t ≡ true) (holds y) s false (λ its. absurd (both_ways false refl its)) (λ t apart its. its) t
@@ -107,6 +115,7 @@ module _ (st : Setting) (is : IsSetting st) (p : FullUpdate) (w : FullWorld) (ke
         placed = action_places st is p w kept.placed (Admits a v) may;
         order = kept.order;
         holders = same_holders w after holds kept.holders;
+        own = same_own st w after holds kept.own;
         flights = λ t u. set_at-cases (λ (part : FullPart). part.flight t ≡ Some u → part.task u ≡ true) w.part a g t.home.0
             (λ at flies. (λ k. quiet.task k u) ∙
             set_for-holds (λ r o. r.home.0 ≡ a → o ≡ Some u → f.task u ≡ true) f.flight s (Some v)
@@ -134,6 +143,7 @@ module _ (st : Setting) (is : IsSetting st) (p : FullUpdate) (w : FullWorld) (ke
         placed = placed;
         order = kept.order;
         holders = same_holders w after holds kept.holders;
+        own = same_own st w after holds kept.own;
         flights = same_flights w after flight (λ b u its. (λ k. task b k u) ∙ its) kept.flights;
         gathered = still_true st w after holds number (sends_true what w from to may.message may.behind may.first kept.gathered);
         replay = replay_still st p w after (sends_quiet w from to may.message may.behind may.first) kept.order kept.replay;
@@ -153,6 +163,7 @@ module _ (st : Setting) (is : IsSetting st) (p : FullUpdate) (w : FullWorld) (ke
         placed = placed;
         order = kept.order;
         holders = same_holders w after holds kept.holders;
+        own = same_own st w after holds kept.own;
         flights = same_flights w after flight (λ b u its. (λ k. task b k u) ∙ its) kept.flights;
         gathered = still_true st w after holds number (delivers_true what st w from to m behind first kept.gathered);
         replay = replay_still st p w after (delivers_quiet st w from to m behind first none quiet) kept.order kept.replay;
@@ -181,6 +192,9 @@ module _ (st : Setting) (is : IsSetting st) (p : FullUpdate) (w : FullWorld) (ke
       both_ways (is_scope t s) apart (subst (λ (r : ScopeId). is_scope t r ≡ true) same (same_scope t)))
       ∙ ap (λ b. (w.part b).number (AVertex x)) (sym at))
       (λ off. refl)) in
+      let less : (b y : ℕ) (t : ScopeId) → (after.part b).holds y t ≡ true → (w.part b).holds y t ≡ true = λ b y t.
+      set_at-cases (λ (part : FullPart). part.holds y t ≡ true → (w.part b).holds y t ≡ true) w.part to g b
+      (λ at its. subst (λ c. (w.part c).holds y t ≡ true) (sym at) (released_less f.holds s y t its)) (λ off its. its) in
       let nowhere : (b : ℕ) → IsCarriedNowhere w s b = λ b. given_nowhere st w kept.placed s given.centre given.to b given.stage_is in
       let not_ready = given_not_ready st w kept.placed s given.centre given.to given.stage_is in
       let part_now : (b : ℕ) → IsTruePart (to_gather st after) b (w.part b) = λ b.
@@ -192,8 +206,8 @@ module _ (st : Setting) (is : IsSetting st) (p : FullUpdate) (w : FullWorld) (ke
       record {
         placed = placed;
         order = kept.order;
-        holders = fewer_holders w after (λ b y t. set_at-cases (λ (part : FullPart). part.holds y t ≡ true → (w.part b).holds y t ≡ true) w.part to g b
-            (λ at its. subst (λ c. (w.part c).holds y t ≡ true) (sym at) (released_less f.holds s y t its)) (λ off its. its)) kept.holders;
+        holders = fewer_holders w after less kept.holders;
+        own = fewer_own st w after less kept.own;
         flights = same_flights w after flight (λ b u its. set_at-cases (λ (part : FullPart). part.task u ≡ true) w.part to g b
             (λ at. or_right (gift.wakes u) (f.task u) (subst (λ c. (w.part c).task u ≡ true) at its)) (λ off. its)) kept.flights;
         gathered = record {
@@ -269,6 +283,9 @@ module _ (st : Setting) (is : IsSetting st) (p : FullUpdate) (w : FullWorld) (ke
         holders = λ b y t u. set_at-cases (λ (part : FullPart). part.holds y t ≡ true → part.holds y u ≡ true → t ≡ u) w.part a g b
             (λ at its also. one_holder f x s may.free (λ z one other. kept.holders a z one other) y t u (sym (holds_g y t) ∙ its) (sym (holds_g y u) ∙ also))
             (λ off its also. kept.holders b y t u its also);
+        own = λ b y t. set_at-cases (λ (part : FullPart). part.holds y t ≡ true → st.owner y ≡ b) w.part a g b
+            (λ at its. own_here f x s a may.owned (λ z r one. kept.own a z r one) y t (sym (holds_g y t) ∙ its) ∙ sym at)
+            (λ off its. kept.own b y t its);
         flights = same_flights w after flight (λ b u its. (λ k. task b k u) ∙ its) kept.flights;
         gathered = record {
           parts = λ b. set_at-holds (λ c part. IsTruePart (to_gather st after) c part) w.part a g b part_g
@@ -279,6 +296,12 @@ module _ (st : Setting) (is : IsSetting st) (p : FullUpdate) (w : FullWorld) (ke
       } in
       subst (λ part. ArePlaced st (with_full_part w a part) → IsKept st p (with_full_part w a part)) (sym is_g) now (action_places st is p w kept.placed (Grants a x) may)
     where
+      -- the lock that is held now is of one of the machine's vertices too
+      own_here : (f : FullPart) (x : ℕ) (s : ScopeId) (a : ℕ) → st.owner x ≡ a → ((z : ℕ) (r : ScopeId) → f.holds z r ≡ true → st.owner z ≡ a) → (y : ℕ) (t : ScopeId) → set_at f.holds x (set_for (f.holds x) s true) y t ≡ true → st.owner y ≡ a
+      own_here f x s a owned own y t = set_at-cases (λ (row : ScopeId → Bool). row t ≡ true → st.owner y ≡ a) f.holds x (set_for (f.holds x) s true) y
+          (λ at its. ap st.owner at ∙ owned)
+          (λ off its. own y t its)
+
       -- where nobody held the lock it has one holder
       one_holder : (f : FullPart) (x : ℕ) (s : ScopeId) → ((t : ScopeId) → f.holds x t ≡ false) → ((z : ℕ) (t u : ScopeId) → f.holds z t ≡ true → f.holds z u ≡ true → t ≡ u) →
           (y : ℕ) (t u : ScopeId) → set_at f.holds x (set_for (f.holds x) s true) y t ≡ true → set_at f.holds x (set_for (f.holds x) s true) y u ≡ true → t ≡ u
@@ -313,6 +336,9 @@ module _ (st : Setting) (is : IsSetting st) (p : FullUpdate) (w : FullWorld) (ke
       ap (λ o. unwrap_or o (f.number (AVertex x))) (cond-false (keeps st a (AVertex x) && is_in_scope st v x) (Some (number_in (after_full st.graph p (lent_full may.seen f) v) (AVertex x))) None (and_right (keeps st a (AVertex x)) (is_in_scope st v x) away))
       ∙ ap (λ b. (w.part b).number (AVertex x)) (sym at))
       (λ off. refl)) in
+      let less : (b y : ℕ) (t : ScopeId) → (after.part b).holds y t ≡ true → (w.part b).holds y t ≡ true = λ b y t.
+      set_at-cases (λ (part : FullPart). part.holds y t ≡ true → (w.part b).holds y t ≡ true) w.part a g b
+      (λ at its. subst (λ c. (w.part c).holds y t ≡ true) (sym at) (released_less f.holds s y t its)) (λ off its. its) in
       let nowhere : (b : ℕ) → IsCarriedNowhere w s b = λ b. ready_nowhere st w kept.placed s v b staying in
       let others_true : (b : ℕ) → IsTrueOthers (to_gather st after) s b (w.part b) = λ b. others_other what (to_gather st after) s others w b (nowhere b) kept.gathered b in
       let h = others_true a in
@@ -325,8 +351,8 @@ module _ (st : Setting) (is : IsSetting st) (p : FullUpdate) (w : FullWorld) (ke
       let now : ArePlaced st after → IsKept st p after = λ placed. record {
         placed = placed;
         order = longer st is p w kept.placed kept.holders kept.gathered kept.order kept.replay s v may.seen may.flight may.ready;
-        holders = fewer_holders w after (λ b y t. set_at-cases (λ (part : FullPart). part.holds y t ≡ true → (w.part b).holds y t ≡ true) w.part a g b
-            (λ at its. subst (λ c. (w.part c).holds y t ≡ true) (sym at) (released_less f.holds s y t its)) (λ off its. its)) kept.holders;
+        holders = fewer_holders w after less kept.holders;
+        own = fewer_own st w after less kept.own;
         flights = λ t u. set_at-cases (λ (part : FullPart). part.flight t ≡ Some u → part.task u ≡ true) w.part a g t.home.0
             (λ at flies. ⊎_elim
             (λ (same : t ≡ s). absurd (none_not_some u (sym (set_for-same f.flight s None) ∙ ap (set_for f.flight s None) (sym same) ∙ flies)))

@@ -21,8 +21,9 @@ use Rattle.full_laws.specs.FullParts.{FullPart, FullStand}
 use Rattle.full_laws.specs.FullPlaces.{bare_stand}
 use Rattle.full_laws.specs.Items.{AVertex, Item, is_written, keeps, number_in}
 
--- what a gift to machine q of an update of v may say
+-- what a gift to machine q of an update of v says, and what it may say
 pub record IsGiftOf (st : Setting) (v q : ℕ) (gift : Gift) : Type 0 where
+  pub whole : (i : Item) → keeps st q i ≡ true → is_written st v i ≡ true → (n : ℕ) × (gift.numbers i ≡ Some n)
   pub numbers : (i : Item) (n : ℕ) → gift.numbers i ≡ Some n → (keeps st q i ≡ true) × (is_written st v i ≡ true)
   pub wakes : (u : ℕ) → gift.wakes u ≡ true → (is_in_scope st v u ≡ true) × (st.owner u ≡ q)
 
@@ -246,9 +247,15 @@ module _ (st : Setting) where
   some_is true m n is = refl
   some_is false m n is = cc
 
+  some_if_both : (one other : Bool) (n : ℕ) → one ≡ true → other ≡ true → (m : ℕ) × ((if one && other then Some n else None) ≡ Some m)
+  some_if_both true true n is also = (n, refl)
+  some_if_both true false n is also = cc
+  some_if_both false other n is also = cc
+
   pub gift_is : IsSetting st → (p : FullUpdate) (lent : GraphState) (v q : ℕ) → IsGiftOf st v q (gift_for st p lent v q)
   gift_is is p lent v q =
       record {
+        whole = λ i keep written. some_if_both (keeps st q i) (is_written st v i) (number_in (after_full st.graph p lent v) i) keep written;
         numbers = λ i n gives. and_parts (keeps st q i) (is_written st v i) (some_is (keeps st q i && is_written st v i) (number_in (after_full st.graph p lent v) i) n gives);
         wakes = λ u woken.
             let both = and_parts (st.owner u == q) _ woken in

@@ -10,12 +10,27 @@ use Rattle.cluster_laws.specs.cluster_core.Scopes.{is_scope, machines_from}
 use Rattle.cluster_laws.specs.cluster_core.Settings.{Setting, is_in_scope}
 use Rattle.cluster_laws.specs.cluster_core.Stages.{Idle, IsAsked, IsDone, IsReady, Sight, Stage, Token, flying, sight_of}
 use Rattle.full_laws.specs.FullMessages.{FullMessage, Gather, Give, Home}
-use Rattle.full_laws.specs.FullParts.{FullStand}
+use Rattle.full_laws.specs.FullParts.{FullPart, FullStand}
 use Rattle.full_laws.specs.FullWorlds.{FullWorld, full_way, number_at}
+use Rattle.full_laws.specs.Items.{AVertex}
 
 -- a held lock has one holder
 abbrev pub HaveOneHolder : FullWorld → Type 0
 HaveOneHolder w = (a x : ℕ) (s t : ScopeId) → (w.part a).holds x s ≡ true → (w.part a).holds x t ≡ true → s ≡ t
+
+-- each lock that is held at a machine is of one of its vertices
+abbrev pub HoldTheirOwn : Setting → FullWorld → Type 0
+HoldTheirOwn st w = (a x : ℕ) (s : ScopeId) → (w.part a).holds x s ≡ true → st.owner x ≡ a
+
+-- a gift has a number of each vertex whose lock its scope holds here
+abbrev pub GivesItsLocks : FullPart → FullMessage → Type 0
+GivesItsLocks part (Gather s v rest seen) = ⊤
+GivesItsLocks part (Home s seen) = ⊤
+GivesItsLocks part (Give s gift) = (x : ℕ) → part.holds x s ≡ true → (n : ℕ) × (gift.numbers (AVertex x) ≡ Some n)
+
+-- each gift has such numbers of the machine to which it goes
+abbrev pub GiveTheirLocks : FullWorld → Type 0
+GiveTheirLocks w = (p q : ℕ) → AllByRecursion (GivesItsLocks (w.part q)) (full_way w p q)
 
 -- ---- places
 

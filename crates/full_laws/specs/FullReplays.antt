@@ -12,7 +12,7 @@ use Rattle.cluster_laws.specs.merged_logs.Merges.{all_logged}
 use Rattle.full_scope.specs.FullOrders.{IsFullyValid, full_replay, full_tasks_after}
 use Rattle.full_scope.specs.FullUpdates.{FullUpdate}
 use Rattle.full_laws.specs.FullMessages.{Gift, gifts_of}
-use Rattle.full_laws.specs.FullPlaces.{AreFullPlaces, AreGathered, HaveOneHolder, to_gather}
+use Rattle.full_laws.specs.FullPlaces.{AreFullPlaces, AreGathered, GiveTheirLocks, HaveOneHolder, HoldTheirOwn, to_gather}
 use Rattle.full_laws.specs.FullWorlds.{FullWorld, full_way}
 use Rattle.full_laws.specs.Items.{IsItem, Item, keeps, number_in}
 
@@ -55,11 +55,14 @@ pub record IsFullReplay (st : Setting) (p : FullUpdate) (w : FullWorld) (order :
       ComesTo (λ from. gifts_from w from a) i ((w.part a).number i) (number_in (full_replay st.graph p order) i)
   pub tasks : (u : ℕ) → u < size st.graph → (full_tasks_after st.graph p order u ≡ true) ↔ IsTaskFull st w u
 
--- One holder for each lock, each scope in one place, what was gathered is true, and the numbers are those of an order.
+-- One holder for each lock, each scope in one place, what was gathered is true, what is given has a number of each vertex whose lock
+-- is let go with it, and the numbers are those of an order.
 pub record IsFullCoherent (st : Setting) (p : FullUpdate) (w : FullWorld) : Type 0 where
   pub stage : ScopeId → Stage
   pub order : List Entry
   pub holders : HaveOneHolder w
+  pub own : HoldTheirOwn st w
+  pub given : GiveTheirLocks w
   pub places : AreFullPlaces st w stage
   pub gathered : AreGathered w (to_gather st w)
   pub replay : IsFullReplay st p w order

@@ -24,9 +24,10 @@ pub fn full_clusters_start()
         (kept : IsFullCoherent st p w) × (kept.order ≡ []) }
 {}
 
-/// Whatever happens, it stays coherent: a held lock has one holder, each scope is in one place,
-/// what was gathered is what the owners have, and the numbers and tasks are those of one valid
-/// order, whose parts are the logs.
+/// Whatever happens, it stays coherent: a held lock has one holder, and its machine owns its vertex;
+/// each scope is in one place; what was gathered is what the owners have; what is given has a
+/// number of each vertex whose lock is let go with it; and the numbers and tasks are those of one
+/// valid order, whose parts are the logs.
 pub fn full_clusters_stay_coherent()
     ensures { (st : Setting) (p : FullUpdate) (start : FullWorld) (actions : List FullAction)
         (w : FullWorld) → IsSetting st → IsFullStart st p start → IsFullRun st p start actions w →
