@@ -1,5 +1,6 @@
 -- What the places of scopes in a coherent cluster say of a machine in code.
-use Rattle.std.proofs.Common.{◌≡◌, ℕ, suc, ◌+◌, ◌-◌, ◌<◌, Option, None, Some, List, [], ◌∷◌, length, map, slice_get, slice_index_or, refl, sym, ◌∙◌, ap, subst, arith}
+use Rattle.std.proofs.Common.{◌≡◌, ℕ, suc, ◌+◌, ◌-◌, ◌<◌, Option, None, Some, List, [], ◌∷◌, ◌++◌, length, map, slice_get, slice_index_or, refl, sym, ◌∙◌, ap, subst, arith}
+use Rattle.std.specs.List.{AllByRecursion}
 use Rattle.std.specs.Option.{option_map}
 use Rattle.std.proofs.lemmas.List.{length-map}
 use Rattle.std.proofs.lemmas.Option.{slice_get-map, slice_get_within}
@@ -13,11 +14,12 @@ use Rattle.cluster_laws.specs.cluster_core.Settings.{IsSetting, Setting}
 use Rattle.cluster_laws.proofs.cluster_core.Basics.{all_passing-cons}
 use Rattle.cluster_laws.proofs.cluster_core.Nearness.{is_own}
 use Rattle.full_scope.specs.FullUpdates.{FullUpdate}
+use Rattle.full_laws.specs.FullActions.{HasFirstFull}
 use Rattle.full_laws.specs.FullEffects.{scope_of}
 use Rattle.full_laws.specs.FullMessages as model
 use Rattle.full_laws.specs.FullMessages.{Gift}
-use Rattle.full_laws.specs.FullParts.{FullStand}
-use Rattle.full_laws.specs.FullPlaces.{IsArrivingAt, IsStandingAt, times_among}
+use Rattle.full_laws.specs.FullParts.{FullPart, FullStand}
+use Rattle.full_laws.specs.FullPlaces.{GivesItsLocks, IsArrivingAt, IsStandingAt, times_among}
 use Rattle.full_laws.specs.FullReplays.{IsFullCoherent}
 use Rattle.full_laws.specs.FullWorlds.{FullWorld}
 use Rattle.full_laws.proofs.Standing.{gather_comes, next_flight, next_stand, queued_stands, stand_is}
@@ -26,7 +28,7 @@ use Rattle.full_cluster.specs.declared.machines.ScopeStand.{ScopeStand}
 use Rattle.full_cluster.specs.declared.messages.FullMessage.{FullMessage}
 use Rattle.full_cluster.specs.declared.messages.FullMessage.TheVariants as told
 use Rattle.full_cluster.specs.declared.queues.FullQueue.{FullQueue}
-use Rattle.full_cluster.specs.FullMachines.{AreStandsWithin, AskForIt, IsMachineOf, IsNextNew, IsReceivable, IsStandOf, StandsAs, next_scope}
+use Rattle.full_cluster.specs.FullMachines.{AreStandsWithin, AskForIt, GivesWhatItHolds, IsMachineOf, IsNextNew, IsReceivable, IsStandOf, StandsAs, next_scope}
 use Rattle.full_cluster.specs.FullQueues.{AreMessages, AreQueuesOf, IsFirstIn, IsMessage, seen_in}
 use Rattle.full_cluster.specs.Given.{IsGift, IsWithin}
 use Rattle.full_cluster.specs.ScopeMaps.{value_of}
@@ -130,3 +132,16 @@ next_new st p w m kept machine =
       flight = map_none (λ (v : Vertex). v.0) (value_of m.flights.entries.items s) (sym (machine.flights s) ∙ lands);
       stand = not_stood st a (value_of m.stands.entries.items s) (subst (λ (o : Option FullStand). StandsAs st a (value_of m.stands.entries.items s) o) away (machine.stands s));
     }
+
+-- ---- what is given
+
+gives_held : (st : Setting) (part : FullPart) (m : model.FullMessage) → GivesItsLocks part m → GivesWhatItHolds st part m
+gives_held st part (model.Gather s v rest seen) gives = tt
+gives_held st part (model.Home s seen) gives = tt
+gives_held st part (model.Give s gift) gives = λ x low holds. gives x holds
+
+pub first_gives : (st : Setting) (p : FullUpdate) (w : FullWorld) → IsFullCoherent st p w → (from a : ℕ) (has : HasFirstFull (w.link from a)) → GivesWhatItHolds st (w.part a) has.message
+first_gives st p w kept from a has =
+    let all : AllByRecursion (GivesItsLocks (w.part a)) ((has.message ∷ has.behind) ++ (w.part from).out a) =
+    subst (λ (ms : List model.FullMessage). AllByRecursion (GivesItsLocks (w.part a)) (ms ++ (w.part from).out a)) has.first (kept.given from a) in
+    gives_held st (w.part a) has.message all.0

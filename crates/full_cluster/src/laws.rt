@@ -5,7 +5,7 @@ ghost use Rattle.gl_base.specs.declared.scopes.ScopeId.{ScopeId};
 ghost use Rattle.graph_core.specs.DataGraph.{size};
 ghost use Rattle.cluster_laws.specs.cluster_core.Settings.{IsSetting, Setting};
 ghost use Rattle.full_scope.specs.FullUpdates.{FullUpdate};
-ghost use Rattle.full_laws.specs.FullActions.{MayGrantFull};
+ghost use Rattle.full_laws.specs.FullActions.{HasFirstFull, MayGrantFull};
 ghost use Rattle.full_laws.specs.FullEffects.{locks_full, released_full};
 ghost use Rattle.full_laws.specs.FullParts.{FullPart};
 ghost use Rattle.full_laws.specs.FullReplays.{IsFullCoherent};
@@ -14,7 +14,7 @@ ghost use Rattle.full_cluster.specs.declared.locks.WholeLock.{WholeLock};
 ghost use Rattle.full_cluster.specs.declared.machines.FullMachine.{FullMachine};
 ghost use Rattle.full_cluster.specs.declared.messages.FullMessage.{FullMessage};
 ghost use Rattle.full_cluster.specs.declared.queues.FullQueue.{FullQueue};
-ghost use Rattle.full_cluster.specs.FullMachines.{AreStandsWithin, AskForIt, IsMachineOf, IsNextNew, IsReceivable};
+ghost use Rattle.full_cluster.specs.FullMachines.{AreStandsWithin, AskForIt, GivesWhatItHolds, IsMachineOf, IsNextNew, IsReceivable};
 ghost use Rattle.full_cluster.specs.FullQueues.{AreQueuesOf, IsFirstIn};
 ghost use Rattle.full_cluster.specs.WholeLocks.{IsFreed, IsGrantedTo, IsLockOf, IsUngrantable};
 
@@ -54,6 +54,14 @@ pub fn coherent_machines_may_receive()
         IsSetting st → IsFullCoherent st p w → IsMachineOf st m (w.part m.me.0) →
         length m.out.queues.items ≡ st.machines → AreQueuesOf st queues (w.link from) →
         IsFirstIn queues m.me.0 message → IsReceivable m message }
+{}
+
+/// In a coherent cluster a scope whose update is given to a machine holds no lock there but those of
+/// vertices of which it gives the number, as `deliver` supposes.
+pub fn coherent_machines_may_deliver()
+    ensures { (st : Setting) (p : FullUpdate) (w : FullWorld) → IsFullCoherent st p w →
+        (from a : ℕ) (has : HasFirstFull (w.link from a)) →
+        GivesWhatItHolds st (w.part a) has.message }
 {}
 
 /// In a coherent cluster the scope that a machine admits next is new to it, as `admit` requires.

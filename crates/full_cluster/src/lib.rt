@@ -25,8 +25,8 @@ pub use divisions::Division;
 pub use giving::FullGift;
 pub use kept::KeptNumbers;
 pub use laws::{
-    coherent_machines_may_admit, coherent_machines_may_grant, coherent_machines_may_receive,
-    whole_locks_are_a_machines,
+    coherent_machines_may_admit, coherent_machines_may_deliver, coherent_machines_may_grant,
+    coherent_machines_may_receive, whole_locks_are_a_machines,
 };
 pub use lock_rows::WholeLocks;
 pub use locks::WholeLock;
