@@ -15,3 +15,4 @@ pub mod MachineLemmas
 pub mod GrantLemmas
 pub mod ArrivingLemmas
 pub mod CoherentLemmas
+pub mod ClusterLemmas

@@ -143,3 +143,22 @@ first_asked st a stand order place = record { order = order; next = order.first 
 pub not_err : {T E P : Type 0} (r : Result T E) → is_err r ≡ false → OnOk r P → P
 not_err (Ok x) fine p = p
 not_err (Err e) fine p = absurd (true≢false fine)
+
+-- the machine with another outbox
+pub out_changed : (st : Setting) (m : FullMachine) (out : FullQueues) (part : FullPart) (waits : ℕ → List model.FullMessage) → IsMachineOf st m part → AreQueuesOf st out.queues.items waits → IsMachineOf st (record m { out = out }) (record part { out = waits })
+out_changed st m out part waits is are =
+    record {
+      numbers = lists_again st m.me.0 m.kept.numbers.items m.kept.edges.items m.kept.tasks.items part (record part { out = waits }) refl refl is.numbers;
+      locks = is.locks;
+      lock_count = is.lock_count;
+      log = is.log;
+      serial = is.serial;
+      flying = is.flying;
+      flights = is.flights;
+      flights_once = is.flights_once;
+      stands = is.stands;
+      stands_once = is.stands_once;
+      ready = is.ready;
+      ready_once = is.ready_once;
+      out = are;
+    }

@@ -3,7 +3,7 @@ use Rattle.std.specs.Bool.{⊤}
 use Rattle.std.specs.Global.{Vec}
 use Rattle.std.specs.Option.{option_map}
 use Rattle.std.specs.Vec.{vec_capacity, vec_len}
-use Rattle.std.specs.Prelude.{◌≡◌, ℕ, ◌+◌, ◌<◌, true, Option, None, Some, List, [], length, map, slice_get}
+use Rattle.std.specs.Prelude.{◌≡◌, ℕ, ◌+◌, ◌<◌, true, Option, None, Some, List, [], ◌∷◌, ◌++◌, length, map, slice_get}
 use Rattle.gl_base.specs.declared.numbers.MachineNo.{MachineNo}
 use Rattle.gl_base.specs.declared.numbers.Vertex.{Vertex}
 use Rattle.gl_base.specs.declared.scopes.ScopeId.{ScopeId}
@@ -143,6 +143,12 @@ pub record HasDelivered (st : Setting) (new : FullMachine) (link_new : List Full
   pub first : HasFirstFull (link a)
   pub links : AreQueuesOf st link_new (set_at link a first.behind)
   pub machine : IsMachineOf st new (received_full st a first.message part)
+
+-- the first message of the outbox for q is behind the others on the link
+pub record HasSentFrom (st : Setting) (new : FullMachine) (link_new : List FullQueue) (part : FullPart) (link : ℕ → List model.FullMessage) (q : ℕ) : Type 0 where
+  pub first : HasFirstFull (part.out q)
+  pub machine : IsMachineOf st new (record part { out = set_at part.out q first.behind })
+  pub links : AreQueuesOf st link_new (set_at link q (link q ++ first.message ∷ []))
 
 -- a scope stands before a lock of its list here, and the machines and locks to which it may go on then are there
 pub record IsWithinAfter (m : FullMachine) (s : ScopeId) (stand : ScopeStand) : Type 0 where

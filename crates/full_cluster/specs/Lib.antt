@@ -7,3 +7,4 @@ pub mod ScopeMaps
 pub mod Orders
 pub mod FullQueues
 pub mod FullMachines
+pub mod FullClusters

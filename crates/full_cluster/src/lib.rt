@@ -4,6 +4,7 @@
 
 mod admitting;
 mod arriving;
+mod clusters;
 mod divisions;
 mod giving;
 mod granting;
@@ -21,6 +22,7 @@ mod updates;
 mod ways;
 
 pub use admitting::FullTerms;
+pub use clusters::FullCluster;
 pub use divisions::Division;
 pub use giving::FullGift;
 pub use kept::KeptNumbers;

@@ -3,9 +3,11 @@ ghost use Rattle.std.specs.Prelude.{◌≡◌, ℕ, List, length, OnOk, OnErr, I
 ghost use Rattle.cluster_laws.specs.cluster_core.Settings.{Setting};
 ghost use Rattle.full_laws.specs.FullActions.{HasFirstFull};
 ghost use Rattle.full_laws.specs.FullMessages.{FullMessage as ModelMessage};
+ghost use Rattle.full_laws.specs.FullParts.{FullPart};
+ghost use Rattle.full_cluster.specs.FullMachines.{HasSentFrom, IsMachineOf, IsSameMachine};
 ghost use Rattle.full_cluster.specs.FullQueues.{AreQueuesOf, HasSent};
 
-use crate::FullQueues;
+use crate::{FullMachine, FullQueues};
 use gl_base::{MachineNo, Refused};
 
 /// The first message for a machine in an outbox goes to the end of the link there. `NotNow` comes
@@ -36,4 +38,27 @@ pub fn send(out: &mut FullQueues, links: &mut FullQueues, to: MachineNo) -> Resu
         links.put(to, message);
     }
     Ok(())
+}
+
+impl FullMachine {
+    /// The first message for a machine goes to the end of the link there. `NotNow` comes exactly
+    /// where no message waits for it, and after an error all is as it was.
+    pub fn send(&mut self, links: &mut FullQueues, to: MachineNo) -> Result<(), Refused>
+        requires { length links.old.queues.items ≡ length self.old.out.queues.items }
+        ensures still { IsSameMachine self.old self.new }
+        ensures links_count { length links.new.queues.items ≡ length links.old.queues.items }
+        ensures sent { (st : Setting) (part : FullPart) (on : ℕ → List ModelMessage) →
+            IsMachineOf st self.old part → AreQueuesOf st links.old.queues.items on →
+            OnOk result (HasSentFrom st self.new links.new.queues.items part on to.0) }
+        ensures not_now { (st : Setting) (part : FullPart) → IsMachineOf st self.old part →
+            IsErrOf result Refused.NotNow → HasFirstFull (part.out to.0) → ⊥ }
+        ensures no_memory { (st : Setting) (part : FullPart) → IsMachineOf st self.old part →
+            IsErrOf result Refused.NoMemory → HasFirstFull (part.out to.0) }
+        ensures unchanged { (st : Setting) (part : FullPart) (on : ℕ → List ModelMessage) →
+            IsMachineOf st self.old part → AreQueuesOf st links.old.queues.items on →
+            OnErr result (IsMachineOf st self.new part ×
+            AreQueuesOf st links.new.queues.items on) }
+    {
+        send(&mut self.out, links, to)
+    }
 }
