@@ -56,7 +56,7 @@ no_bad_store resumed files job g past fault sound refused =
 no_other_store : (resumed : Bool) (files : FilesState) (job : JobSayings) (g : DataGraph) (cut : Cut) (past : DiskPast) → HasSoundStore resumed files job g past → IsCutOf files job.fields g cut → IsOtherStore job g cut past → ⊥
 no_other_store resumed files job g cut past sound cut_is other =
     let good = sound.good cut cut_is in
-    other good.owner good.front good.good (first-part (65 + records_size (snapshots_on job g past)) _ _ (2 ^ 30) sound.room.short)
+    other.other good.owner good.front good.good (first-part (65 + records_size (snapshots_on job g past)) _ _ (2 ^ 30) sound.room.short)
 
 module _ (told : Bool) (asked : JobVerb) (file : List ℕ) (before now : Moment) (sound : IsSoundOnStore told asked file before now) where
   abbrev pub old : FilesState

@@ -101,7 +101,11 @@ module _ (told : Bool) (asked : JobVerb) (old mid : FilesState) (file : List ℕ
           each : (names : Option (List (List ℕ))) → IfSome names (λ n. IsTrue told → RunsOnStore (is_resumed asked) job prepared.graph is.cut (old.pasts name) (new name) prepared.run)
               → IfSome names (λ n. IsTrue told → KeepsGoing job prepared.graph is.cut (old.pasts name) (new name))
           each None runs = tt
-          each (Some n) runs = λ yes owner front is_for. let goes = (runs yes).goes_on owner front is_for in (goes.snapshots, goes.keeps)
+          each (Some n) runs = λ yes.
+              record {
+                placed = (runs yes).placed;
+                keeps = λ owner front is_for. let goes = (runs yes).goes_on owner front is_for in (goes.snapshots, goes.keeps);
+              }
 
       go : (store : Option (List ℕ)) → job.fields.store ≡ store → RunsSo told asked old mid.pasts job prepared.graph is.cut prepared.run store → KeepsAllImages told old new ⊎ RunsOutOnStore told asked old new file
       go None named runs = inl (same-images told old new (same ∙ is.alone named))

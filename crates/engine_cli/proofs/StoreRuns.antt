@@ -30,6 +30,7 @@ use Rattle.engine_cli.specs.Inner.Storing.{IsStoreKept, IsNotGood, IsNotGoneOnFr
 use Rattle.engine_cli.specs.JobRuns.{AreGoodImages, GoesOnFrom, KeepsStore, RunsOnStore, records_size, shared_by, snapshots_on}
 use Rattle.engine_cli.specs.JobStores.{IsNotRunFrom, IsOtherStore, KeepsGoing, KeepsImages}
 use Rattle.engine_cli.specs.Plays.{AreResults, RunsByScopes, update_of}
+use Rattle.engine_runs.proofs.placement_is_unique.PlacementsMade.{some_placement}
 use Rattle.engine_cli.proofs.Bounds.{bound-of}
 use Rattle.engine_cli.proofs.DisksLeft.{leaves-more, leaves-twice}
 use Rattle.engine_cli.proofs.Results.{results-of}
@@ -124,53 +125,61 @@ module _ (job : JobSayings) (g : DataGraph) (cut : Cut) (old mid new : DiskPast)
       }
 
   -- memory ran out
-  keeps-going : IsStoreKept job g cut program header bodies mid new → KeepsGoing job g cut old new
-  keeps-going kept owner front is_for =
-      let same : bodies ≡ snapshots_on job g old = sym (stands_are header old.now.seen bodies stands) in
-      let shared = shared_by job g owner in
-      let found = front-opened shared front is_for.images in
-      let went = kept owner is_for.placed found.2 in
-      let K : List (List ℕ) → Type 0 = λ b. KeepsStore shared header front b went.0 old new in
-      (went.0, subst K same (keeps-store shared front went.0 is_for.images went.1))
+  keeps-going : 1 ≤ job.fields.machines → IsStoreKept job g cut program header bodies mid new → KeepsGoing job g cut old new
+  keeps-going some kept =
+      record {
+        placed = some_placement g cut job.fields.machines some;
+        keeps = λ owner front is_for.
+            let same : bodies ≡ snapshots_on job g old = sym (stands_are header old.now.seen bodies stands) in
+            let shared = shared_by job g owner in
+            let found = front-opened shared front is_for.images in
+            let went = kept owner is_for.placed found.2 in
+            let K : List (List ℕ) → Type 0 = λ b. KeepsStore shared header front b went.0 old new in
+            (went.0, subst K same (keeps-store shared front went.0 is_for.images went.1));
+      }
 
   -- the store is none that calls leave
-  other-store : IsNotGood job g cut program header bodies → IsOtherStore job g cut old
-  other-store not owner front is_for short =
-      let same : snapshots_on job g old ≡ bodies = stands_are header old.now.seen bodies stands in
-      not owner is_for.placed (front-opened (shared_by job g owner) front is_for.images).2 (subst (λ (b : List (List ℕ)). 65 + records_size b ≤ 2 ^ 30) same short)
+  other-store : 1 ≤ job.fields.machines → IsNotGood job g cut program header bodies → IsOtherStore job g cut old
+  other-store some not =
+      record {
+        placed = some_placement g cut job.fields.machines some;
+        other = λ owner front is_for short.
+            let same : snapshots_on job g old ≡ bodies = stands_are header old.now.seen bodies stands in
+            not owner is_for.placed (front-opened (shared_by job g owner) front is_for.images).2 (subst (λ (b : List (List ℕ)). 65 + records_size b ≤ 2 ^ 30) same short);
+      }
 
   -- a disk that the run left as it was opened
   unchanged : new ≡ mid → KeepsImages old new
   unchanged same = subst (λ (p : DiskPast). KeepsImages old p) (sym same) opened
 
   -- and no run came from it
-  not-run-from : (resumed : Bool) (fault : StoreFault) → IsNotGoneOnFrom resumed job g cut program header bodies mid new fault → IsNotRunFrom resumed job g cut old new fault
-  not-run-from resumed fault is =
+  not-run-from : (resumed : Bool) (fault : StoreFault) → 1 ≤ job.fields.machines → IsNotGoneOnFrom resumed job g cut program header bodies mid new fault → IsNotRunFrom resumed job g cut old new fault
+  not-run-from resumed fault some is =
       let same : bodies ≡ snapshots_on job g old = sym (stands_are header old.now.seen bodies stands) in
       record {
         stands = subst (λ (b : List (List ℕ)). DecodesTo header b old.now.seen) same stands;
         fresh = subst (λ (b : List (List ℕ)). resumed ≡ false → length b ≡ 0) same is.fresh;
-        other = other-store is.other;
+        other = other-store some is.other;
         place = subst (λ (b : List (List ℕ)). fault ≡ BadByte (65 + records_size b)) same is.place;
-        kept = ⊎_elim (λ still. inl (unchanged still)) (λ kept. inr (keeps-going kept)) is.kept;
+        kept = ⊎_elim (λ still. inl (unchanged still)) (λ kept. inr (keeps-going some kept)) is.kept;
       }
 
 -- why there is no run, where the store was opened
 pub not-on-disk : (told : Type 0) (resumed : Bool) (job : JobSayings) (g : DataGraph) (cut : Cut) (old mid new : DiskPast) (bodies : List (List ℕ)) (before between now : ℕ) (why : StoreError)
-    → (told → IsImage old.now old.now.seen) → (told → DecodesTo (header_for job.fields g) bodies old.now.seen) → (told → LeavesOnly old mid (IsImage old.now)) → before ≤ between
+    → 1 ≤ job.fields.machines → (told → IsImage old.now old.now.seen) → (told → DecodesTo (header_for job.fields g) bodies old.now.seen) → (told → LeavesOnly old mid (IsImage old.now)) → before ≤ between
     → RunOnJournalErrorCause told resumed job g cut (update_of job.fields.algorithm job.fields.source) (header_for job.fields g) bodies mid new between now why → RunOnDiskErrorCause told resumed job g cut old new before now why
-not-on-disk told resumed job g cut old mid new bodies before between now (no_store.BadStore fault) seen stands opened later refused = λ is.
+not-on-disk told resumed job g cut old mid new bodies before between now (no_store.BadStore fault) some seen stands opened later refused = λ is.
     ⊎_elim
     (λ said. inl (inr (said.0, record { snapshots = bodies; stands = stands is; some = said.1; told = said.2 }), unchanged job g cut old mid new bodies (seen is) (stands is) (opened is) said.3))
-    (λ not. inr (not-run-from job g cut old mid new bodies (seen is) (stands is) (opened is) resumed fault not))
+    (λ not. inr (not-run-from job g cut old mid new bodies (seen is) (stands is) (opened is) resumed fault some not))
     (refused is)
-not-on-disk told resumed job g cut old mid new bodies before between now no_store.DiskFault seen stands opened later refused = (
+not-on-disk told resumed job g cut old mid new bodies before between now no_store.DiskFault some seen stands opened later refused = (
   Rose-later before between now later refused.0,
   λ is. unchanged job g cut old mid new bodies (seen is) (stands is) (opened is) (refused.1 is),
 )
-not-on-disk told resumed job g cut old mid new bodies before between now no_store.NoMemory seen stands opened later refused = λ is.
+not-on-disk told resumed job g cut old mid new bodies before between now no_store.NoMemory some seen stands opened later refused = λ is.
     ⊎_elim (λ same. inl (unchanged job g cut old mid new bodies (seen is) (stands is) (opened is) same))
-    (λ kept. inr (keeps-going job g cut old mid new bodies (seen is) (stands is) (opened is) kept)) (refused is)
+    (λ kept. inr (keeps-going job g cut old mid new bodies (seen is) (stands is) (opened is) some kept)) (refused is)
 
 -- why there is none, where it was not
 pub not-opened : (told : Type 0) (resumed : Bool) (job : JobSayings) (g : DataGraph) (cut : Cut) (old new : DiskPast) (before now : ℕ) (fault : JournalFault)

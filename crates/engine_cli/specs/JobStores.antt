@@ -9,6 +9,7 @@ use Rattle.job_io.specs.job_config.Jobs.{JobSayings}
 use Rattle.job_io.specs.job_files.Atoms.{OfJobCut, OfGraph}
 use Rattle.job_io.specs.job_files.JobTexts.{OfJob, OfSaid, OfTexts}
 use Rattle.job_io.specs.declared.job_files.jobs.JobVerb.{JobVerb}
+use Rattle.placement.specs.plans.Plays.{IsPlacement}
 use Rattle.job_io.specs.job_stores.JobHeaders.{header_for}
 use Rattle.job_io.specs.job_stores.NewStores.{IfDisksTold}
 use Rattle.store.specs.store_format.Stores.{DecodesTo, read_store}
@@ -29,10 +30,10 @@ pub record IsUsed (header : Header) (seen : List ℕ) (fault : StoreFault) : Typ
 abbrev pub RefusesStore : Bool → Header → List ℕ → StoreFault → Type 0
 RefusesStore resumed header seen fault = (read_store header seen ≡ Err fault) ⊎ ((resumed ≡ false) × IsUsed header seen fault)
 
--- the store is none that calls leave: it is longer than one may grow, or it is not one of the job, wherever the graph is placed
-abbrev pub IsOtherStore : JobSayings → DataGraph → Cut → DiskPast → Type 0
-IsOtherStore job g cut past =
-    (owner : ℕ → ℕ) (front : List (List ℕ)) → IsStoreOfJob job g cut owner front past → 65 + records_size (snapshots_on job g past) ≤ 2 ^ 30 → ⊥
+-- The store is none that calls leave, on a graph that is cut so and placed: it is longer than one may grow, or it is not one of the job by the owners of that placement.
+pub record IsOtherStore (job : JobSayings) (g : DataGraph) (cut : Cut) (past : DiskPast) : Type 0 where
+  pub placed : (owner : ℕ → ℕ) × IsPlacement g cut job.fields.machines owner
+  pub other : (owner : ℕ → ℕ) (front : List (List ℕ)) → IsStoreOfJob job g cut owner front past → 65 + records_size (snapshots_on job g past) ≤ 2 ^ 30 → ⊥
 
 -- a crash at any moment of the call left what one as it began would have left
 abbrev pub KeepsImages : DiskPast → DiskPast → Type 0
@@ -42,11 +43,11 @@ KeepsImages old new = LeavesOnly old new (IsImage old.now)
 abbrev pub KeepsAllImages : Bool → FilesState → (List ℕ → DiskPast) → Type 0
 KeepsAllImages told old new = (name : List ℕ) → IfDisksTold told old (KeepsImages (old.pasts name) (new name))
 
--- A run that went on from a good store wanted memory: it may have got snapshots, and the store keeps all that it had.
-abbrev pub KeepsGoing : JobSayings → DataGraph → Cut → DiskPast → DiskPast → Type 0
-KeepsGoing job g cut old new =
-    (owner : ℕ → ℕ) (front : List (List ℕ)) → IsStoreOfJob job g cut owner front old
-    → (snapshots : List (List Entry)) × KeepsStore (shared_by job g owner) (header_for job.fields g) front (snapshots_on job g old) snapshots old new
+-- A run that went on from a good store wanted memory, on a graph that is cut so and placed: it may have got snapshots, and the store keeps all that it had.
+pub record KeepsGoing (job : JobSayings) (g : DataGraph) (cut : Cut) (old new : DiskPast) : Type 0 where
+  pub placed : (owner : ℕ → ℕ) × IsPlacement g cut job.fields.machines owner
+  pub keeps : (owner : ℕ → ℕ) (front : List (List ℕ)) → IsStoreOfJob job g cut owner front old
+      → (snapshots : List (List Entry)) × KeepsStore (shared_by job g owner) (header_for job.fields g) front (snapshots_on job g old) snapshots old new
 
 -- The store has the form of one for the job, with no snapshots unless the run is resumed; but it is none that calls leave, and no run came from it. The fault is
 -- a bad byte where it ended as it was opened. What a crash left is what one as the call began would have left; or from a good store it has all that it had.

@@ -1,5 +1,9 @@
 pub mod GrowthPlaces
+pub mod GrowthCuts
 pub mod FallingOrders
+pub mod FallingMade
 pub mod Placings
+pub mod PlacingsMade
 pub mod Placements
+pub mod PlacementsMade
 pub mod StoreOwners

@@ -3,4 +3,4 @@
 
 mod laws;
 
-pub use laws::{placements_are_one, stores_stay_good_by_other_owners};
+pub use laws::{graphs_are_placed, placements_are_one, stores_stay_good_by_other_owners};

@@ -18,10 +18,10 @@ one_way weights a b (inr lower) (inr higher) = omega (arith, lower.1, higher.1)
 
 module _ (weights : List ℕ) where
   -- the first comes before the others, and the others are in order
-  head_first : (x : ℕ) (xs : List ℕ) → AllPairs (ComesFirst weights) (x ∷ xs) → All (ComesFirst weights x) xs
+  pub head_first : (x : ℕ) (xs : List ℕ) → AllPairs (ComesFirst weights) (x ∷ xs) → All (ComesFirst weights x) xs
   head_first x xs falling = λ k d inside. falling 0 (suc k) d (omega arith) (omega arith)
 
-  tail_falling : (x : ℕ) (xs : List ℕ) → AllPairs (ComesFirst weights) (x ∷ xs) → AllPairs (ComesFirst weights) xs
+  pub tail_falling : (x : ℕ) (xs : List ℕ) → AllPairs (ComesFirst weights) (x ∷ xs) → AllPairs (ComesFirst weights) xs
   tail_falling x xs falling = λ i j d before inside. falling (suc i) (suc j) d (omega arith) (omega arith)
 
   -- of two orders with the same atoms the first is the same

@@ -13,7 +13,7 @@ use Rattle.std.proofs.lemmas.Map.Made.{IsDistinct-from_AllPairs}
 use Rattle.std.proofs.lemmas.Map.Steps.{le-length_from_below, length-le_from_distinct_below}
 use Rattle.std.proofs.lemmas.Map.Views.{Contains-from_any}
 use Rattle.graph_core.specs.DataGraph.{DataGraph, size}
-use Rattle.graph_core.specs.Growth.{extended, growth_order, is_listed, listed_after, seeded, unlisted}
+use Rattle.graph_core.specs.Growth.{ListsEach, extended, growth_order, is_listed, listed_after, seeded, unlisted}
 use Rattle.graph_core.specs.Neighbours.{neighbours_of}
 use Rattle.graph_core.proofs.EdgeLemmas.{eqb_flips}
 use Rattle.graph_core.proofs.GrowthLemmas.{neighbours_ascend}
@@ -130,6 +130,19 @@ grown_all n listed grown v low = elim (cases_Bool (is_listed listed v)) [
       let more = few_apart n (listed ++ v ∷ []) (IsDistinct-push nat_eq_equiv listed v grown.apart missing) (All-push (λ u. u < n) listed v grown.below low) in
       absurd (omega (arith, more, length_push listed v, grown.enough))
 ]
+
+-- it lists each vertex once
+pub growth_lists_each : (g : DataGraph) → ListsEach (size g) (growth_order g 0)
+growth_lists_each g =
+    let order : List ℕ = growth_order g 0 in
+    let grown = after_grown g (size g) (omega arith) in
+    let few = few_apart (size g) order grown.apart grown.below in
+    record {
+      count = omega (arith, few, grown.enough);
+      below = grown.below;
+      apart = grown.apart;
+      all = grown_all (size g) order grown;
+    }
 
 -- the place of a vertex in the order of growth
 pub place_in_growth : (g : DataGraph) (v : ℕ) → v < size g → (p : ℕ) × (p < size g) × (slice_index (growth_order g 0) p ≡ v)

@@ -16,6 +16,13 @@ pub fn placements_are_one()
         v < size g → owner v ≡ other v }
 {}
 
+/// Each graph, however it is cut into atoms, can be placed on one machine or more: so it is placed
+/// in just one way.
+pub fn graphs_are_placed()
+    ensures { (g : DataGraph) (cut : Cut) (machines : ℕ) → 1 ≤ machines →
+        (owner : ℕ → ℕ) × IsPlacement g cut machines owner }
+{}
+
 /// A store that is good by one owner of the vertices is good by any that agrees with it on the
 /// graph, whatever failures a job orders.
 pub fn stores_stay_good_by_other_owners()

@@ -39,7 +39,7 @@ returns-in-Ok-clause-refused g c =
     (IfErr-map c.run_on_journal.result _ _
     (λ why refused.
     not-on-disk T c.args.resumed job graph cut old (g.D.Disk.past c.in-Ok.journal.disk) (g.D.Disk.past c.run_on_journal.new.journal.disk) bodies (g.D.Disk.faults c.args.disk) (g.D.Disk.faults c.in-Ok.journal.disk) _ why
-    (λ told. g.met.D.Disk.reads_an_image c.args.disk told) stands (λ told. c.in-Ok.ensures.any_moment told) c.in-Ok.ensures.later
+    c.requires.numbers.machines.0 (λ told. g.met.D.Disk.reads_an_image c.args.disk told) stands (λ told. c.in-Ok.ensures.any_moment told) c.in-Ok.ensures.later
     (why-of-header T c.args.resumed job graph cut _ c.in-Ok.journal.header (header_for job.fields graph) bodies _ _ _ _ why same refused))
     c.run_on_journal.ensures.refused)
 
