@@ -16,3 +16,4 @@ pub mod Attempting
 pub mod Turning
 pub mod Sighting
 pub mod Acting
+pub mod Directings

@@ -1,6 +1,6 @@
 -- What a seat has found on links, over several steps.
 use Rattle.std.proofs.Common.{None, Option, Some, [], ap, inl, inr, length, refl, subst, ⊎_elim, ◌<◌, ◌≡◌, ◌≢◌, ◌≤◌, ◌∙◌, ℕ}
-use Rattle.std.specs.Prelude.{Err, IfNone, IfOk, IfSome, Ok, OnOk, Result}
+use Rattle.std.specs.Prelude.{Err, IfNone, IfOk, IfSome, Ok, OnErr, OnOk, Result}
 use Rattle.link_tables.proofs.Seeing.{seen_read, seen_sees, seen_then, then_seen}
 use Rattle.link_tables.specs.Seats.{saw, sight}
 use Rattle.wire_board.specs.Led.{IsBare}
@@ -70,6 +70,10 @@ module _ {M : Type 0} (a b : Sat (Seated M) LinkView) (word top : ℕ) where
 pub at_ok : {X E A : Type 0} (r : Result X E) → A → OnOk r A
 at_ok (Ok x) a = a
 at_ok (Err e) a = tt
+
+pub at_err : {X E A : Type 0} (r : Result X E) → A → OnErr r A
+at_err (Ok x) a = tt
+at_err (Err e) a = a
 
 pub on_ok_to : {A E X Y : Type 0} (r : Result A E) → (X → Y) → OnOk r X → OnOk r Y
 on_ok_to (Ok x) f p = f p

@@ -1,8 +1,8 @@
 //! The coordinator's turn on a board.
-ghost use Rattle.std.specs.Prelude.{◌≡◌, ◌≢◌, ◌⊎◌, ◌+◌, ◌*◌, ◌^◌, ◌<◌, ℕ, suc, true, false, List, IfOk, OnOk};
+ghost use Rattle.std.specs.Prelude.{◌≡◌, ◌≢◌, ◌+◌, ◌*◌, ◌^◌, ◌<◌, ℕ, suc, true, false, List, IfOk, OnErr, OnOk};
+ghost use Rattle.coordinator.specs.coord_core.Calls.{StaysCoordinator};
 ghost use Rattle.link_tables.specs.Seats.{Rests};
-ghost use Rattle.wire_board.specs.Acts.{HasLed};
-ghost use Rattle.wire_board.specs.Directing.{HasLedOne};
+ghost use Rattle.wire_board.specs.Directing.{HasDirected, HasDirectedIf, HasLedAt};
 ghost use Rattle.wire_board.specs.Led.{Lead, link_no};
 ghost use Rattle.wire_board.specs.Seats.{Leads};
 ghost use Rattle.wire_board.specs.Sights.{HasLooked, Sees};
@@ -32,7 +32,8 @@ impl<M: SavingMachine> Board<M> {
     /// The coordinator's turn: it tells each machine a call, looks at the link from each and hears
     /// a report, and does what is due. It puts a wave out only where nothing has moved. Where a
     /// record is due, or the end, it does nothing of its own. `Moved` comes only where something
-    /// had moved before, or its seat has made an event.
+    /// had moved before, or events of its seat lead from the coordinator as it was to what it is;
+    /// `Nothing` only where its seat has made none.
     pub fn direct(
         &self,
         alloc: Global,
@@ -52,7 +53,10 @@ impl<M: SavingMachine> Board<M> {
             (from : ℕ) → from < lead.old.number →
             HasLooked place.old.seat.me place.new.seat.me
             (link_no (suc lead.old.number) from lead.old.number)) }
-        ensures led { IfOk result (λ how. how ≡ Directed.Moved → (moved ≡ true) ⊎ HasLedOne) }
+        ensures led { IfOk result (λ how.
+            HasDirected lead.old.number lead.old.coordinator place.old.seat.me
+            lead.new.coordinator place.new.seat.me
+            ((how ≡ Directed.Moved) × (moved ≡ false)) (how ≡ Directed.Nothing)) }
     {
         let told = self.tell_calls(alloc, lead, place)?;
         let heard = self.hear_reports(alloc, lead, place);
@@ -77,7 +81,9 @@ impl<M: SavingMachine> Board<M> {
             Leads lead.new others place.new.seat.me }
         ensures number { lead.new.number ≡ lead.old.number }
         ensures sees { OnOk result (Sees place.old.seat.me place.new.seat.me) }
-        ensures led { IfOk result (λ moved. moved ≡ true → HasLedOne) }
+        ensures led { IfOk result (λ some.
+            HasDirectedIf lead.old.number lead.old.coordinator place.old.seat.me
+            lead.new.coordinator place.new.seat.me some) }
     {
         let mut moved = false;
         for to in 0..lead.number {
@@ -105,7 +111,8 @@ impl<M: SavingMachine> Board<M> {
         ensures looked { (from : ℕ) → from < lead.old.number →
             HasLooked place.old.seat.me place.new.seat.me
             (link_no (suc lead.old.number) from lead.old.number) }
-        ensures led { result ≡ true → HasLedOne }
+        ensures led { HasDirectedIf lead.old.number lead.old.coordinator place.old.seat.me
+            lead.new.coordinator place.new.seat.me result }
     {
         let mut moved = false;
         for from in 0..lead.number {
@@ -129,8 +136,11 @@ impl<M: SavingMachine> Board<M> {
             Leads lead.new others place.new.seat.me }
         ensures number { lead.new.number ≡ lead.old.number }
         ensures sees { Sees place.old.seat.me place.new.seat.me }
-        ensures led { IfOk result (λ how. how ≡ Directed.Moved → (moved ≡ true) ⊎
-            HasLed lead.old.coordinator lead.new.coordinator) }
+        ensures led { IfOk result (λ how.
+            HasDirected lead.old.number lead.old.coordinator place.old.seat.me
+            lead.new.coordinator place.new.seat.me
+            ((how ≡ Directed.Moved) × (moved ≡ false)) (how ≢ Directed.Moved)) }
+        ensures nothing { IfOk result (λ how. how ≡ Directed.Nothing → moved ≡ false) }
     {
         let due = lead.coordinator.due();
         if matches!(due, Due::Record(_) | Due::Ended) {
@@ -159,7 +169,10 @@ impl<M: SavingMachine> Board<M> {
             Leads lead.new others place.new.seat.me }
         ensures number { lead.new.number ≡ lead.old.number }
         ensures sees { Sees place.old.seat.me place.new.seat.me }
-        ensures led { OnOk result (HasLed lead.old.coordinator lead.new.coordinator) }
+        ensures led { OnOk result (HasLedAt lead.old.number lead.old.coordinator
+            place.old.seat.me lead.new.coordinator place.new.seat.me) }
+        ensures unchanged { OnErr result
+            (StaysCoordinator lead.old.coordinator lead.new.coordinator) }
     {
         match due {
             Due::Snapshot(_) => self.begin(lead, place),

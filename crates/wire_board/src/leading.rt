@@ -1,6 +1,6 @@
 //! What the coordinator's seat does.
-ghost use Rattle.std.specs.Prelude.{◌≡◌, List, IsErrOf, OnOk};
-ghost use Rattle.coordinator.specs.coord_core.Calls.{HasBegunNext, HasPutStep, HasPutWave, MayLeadBegin, MayNotBegin, MayNotPutStep, MayNotPutWave, MayPutStep, MayPutWave};
+ghost use Rattle.std.specs.Prelude.{◌≡◌, List, IsErrOf, OnErr, OnOk};
+ghost use Rattle.coordinator.specs.coord_core.Calls.{HasBegunNext, HasPutStep, HasPutWave, MayLeadBegin, MayNotBegin, MayNotPutStep, MayNotPutWave, MayPutStep, MayPutWave, StaysCoordinator};
 ghost use Rattle.wire_board.specs.Seats.{Leads};
 ghost use Rattle.wire_board.specs.Sights.{Sees};
 
@@ -28,6 +28,8 @@ impl<M: SavingMachine> Board<M> {
             HasBegunNext lead.old.coordinator lead.new.coordinator) }
         ensures not_now { IsErrOf result Refused.NotNow → MayNotBegin lead.old.coordinator }
         ensures no_memory { IsErrOf result Refused.NoMemory → MayLeadBegin lead.old.coordinator }
+        ensures unchanged { OnErr result
+            (StaysCoordinator lead.old.coordinator lead.new.coordinator) }
         ensures sees { Sees place.old.seat.me place.new.seat.me }
     {
         lead.coordinator.begin()?;
@@ -51,6 +53,8 @@ impl<M: SavingMachine> Board<M> {
             HasPutStep lead.old.coordinator lead.new.coordinator) }
         ensures not_now { IsErrOf result Refused.NotNow → MayNotPutStep lead.old.coordinator }
         ensures no_memory { IsErrOf result Refused.NoMemory → MayPutStep lead.old.coordinator }
+        ensures unchanged { OnErr result
+            (StaysCoordinator lead.old.coordinator lead.new.coordinator) }
         ensures sees { Sees place.old.seat.me place.new.seat.me }
     {
         lead.coordinator.step()?;
@@ -74,6 +78,8 @@ impl<M: SavingMachine> Board<M> {
             HasPutWave lead.old.coordinator lead.new.coordinator) }
         ensures not_now { IsErrOf result Refused.NotNow → MayNotPutWave lead.old.coordinator }
         ensures no_memory { IsErrOf result Refused.NoMemory → MayPutWave lead.old.coordinator }
+        ensures unchanged { OnErr result
+            (StaysCoordinator lead.old.coordinator lead.new.coordinator) }
         ensures sees { Sees place.old.seat.me place.new.seat.me }
     {
         lead.coordinator.wave()?;

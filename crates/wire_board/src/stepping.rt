@@ -2,8 +2,9 @@
 ghost use Rattle.std.specs.Prelude.{◌≡◌, ◌+◌, ◌*◌, ◌^◌, ◌<◌, ◌≤◌, ◌∷◌, ℕ, suc, true, List, [], length, IfOk, OnOk};
 ghost use Rattle.cluster_step.specs.trace.Traces.{IsSameAttempt, TraceGoesOn};
 ghost use Rattle.link_tables.specs.Seats.{Rests};
-ghost use Rattle.wire_board.specs.Acts.{HasLed, HasMadeOne, HasMovedIf};
+ghost use Rattle.wire_board.specs.Acts.{HasMadeOne, HasMovedIf};
 ghost use Rattle.wire_board.specs.Attempts.{AllFrom, AreNumbered, IsBoardOf, IsSeatOf, resting};
+ghost use Rattle.wire_board.specs.Directing.{HasDirectedIf};
 ghost use Rattle.wire_board.specs.Led.{Lead};
 ghost use Rattle.wire_board.specs.Seats.{Leads, Sits};
 
@@ -315,8 +316,9 @@ impl<M: EagerMachine> Board<M> {
             (first.new.place.seat.table_id ≡ self.now.table.table.shared.table_id) }
         ensures number { OnOk result (first.new.lead.number ≡ first.old.lead.number) }
         ensures leads { OnOk result (Leads first.new.lead [] first.new.place.seat.me) }
-        ensures led { IfOk result (λ moved. moved ≡ true →
-            HasLed first.old.lead.coordinator first.new.lead.coordinator) }
+        ensures led { IfOk result (λ moved. HasDirectedIf first.old.lead.number
+            first.old.lead.coordinator first.old.place.seat.me
+            first.new.lead.coordinator first.new.place.seat.me moved) }
     {
         let machines = first.lead.number;
         match step {

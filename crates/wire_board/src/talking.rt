@@ -3,7 +3,7 @@ ghost use Rattle.std.specs.Prelude.{◌≡◌, ◌≢◌, ◌⊎◌, ◌∷◌, 
 ghost use Rattle.cluster_step.specs.clusters.Links.{LinkView};
 ghost use Rattle.coordinator.specs.coord_core.Calls.{HasHandedOver, HasTakenReport, MayReport};
 ghost use Rattle.coordinator.specs.coord_core.Coordinators.{no_outbox};
-ghost use Rattle.coordinator.specs.machine_api.Promises.{message_view};
+ghost use Rattle.coordinator.specs.machine_api.Promises.{MessageView, message_view};
 ghost use Rattle.link_tables.specs.Rule.{CarriesLink};
 ghost use Rattle.link_tables.specs.Seats.{HoldsLink, number_in, sight, word_at};
 ghost use Rattle.link_tables.specs.declared.words.LinkWord.{LinkWord};
@@ -46,8 +46,9 @@ impl<M: SavingMachine> Board<M> {
         ensures moved { IfOk result (λ how. how ≡ Told.Moved → (message : Message) ×
             HasHandedOver lead.old.coordinator lead.new.coordinator to.0 (Some message)) }
         ensures nothing { IfOk result (λ how. how ≡ Told.Nothing →
-            (has_waiting (slice_index_or lead.old.coordinator.out.machines to.0 no_outbox) ≡
-            false) ⊎ HasHandedOver lead.old.coordinator lead.new.coordinator to.0 None) }
+            (lead.new.coordinator ≡ lead.old.coordinator)
+            × ((has_waiting (slice_index_or lead.old.coordinator.out.machines to.0 no_outbox) ≡
+            false) ⊎ HasHandedOver lead.old.coordinator lead.new.coordinator to.0 None)) }
         ensures busy { IfOk result (λ how. how ≡ Told.Busy →
             (lead.new.coordinator ≡ lead.old.coordinator)
             × (word : LinkWord) × (word ≢ Laden) ×
@@ -92,7 +93,11 @@ impl<M: SavingMachine> Board<M> {
         ensures number { lead.new.number ≡ lead.old.number }
         ensures applied { result ≡ Heard.Applied → (message : Message) ×
             MayReport lead.old.coordinator from.0 (message_view message) ×
-            HasTakenReport lead.old.coordinator lead.new.coordinator from.0 (message_view message) }
+            HasTakenReport lead.old.coordinator lead.new.coordinator from.0 (message_view message)
+            × (queue : LinkView) × (rest : List MessageView) ×
+            (queue.messages ≡ message_view message ∷ rest) ×
+            HadQueue place.old.seat.me place.new.seat.me
+            (link_no (suc lead.old.number) from.0 lead.old.number) queue }
         ensures empty { result ≡ Heard.Empty → (lead.new.coordinator ≡ lead.old.coordinator)
             × FoundBare place.old.seat.me place.new.seat.me
             (link_no (suc lead.old.number) from.0 lead.old.number) }

@@ -4,6 +4,7 @@ use Rattle.cluster_laws.specs.cluster_model.Leading.{begins_snapshot}
 use Rattle.link_tables.proofs.Seeing.{sees_one, sees_same}
 use Rattle.wire_board.proofs.LeadPlaces.{leads_changed, leads_still}
 use Rattle.wire_board.proofs.Leads.{carries_led}
+use Rattle.wire_board.proofs.Sighting.{at_err}
 use Rattle.wire_board.specs.Led.{Lead, Leading}
 use Rattle.wire_board.specs.Openings.{standing_parts}
 use Rattle.wire_board.proofs.boards.Board.begin.Goals as goal
@@ -41,3 +42,6 @@ returns-clause-sees g c =
 
 pub returns-in_err-begin-clause-sees : goal.returns-in_err-begin-clause-sees
 returns-in_err-begin-clause-sees g c = sees_same c.args.place.now.seat.me c.args.place.now.seat.me refl
+
+pub returns-in_err-begin-clause-unchanged : goal.returns-in_err-begin-clause-unchanged
+returns-in_err-begin-clause-unchanged g c = at_err c.from_residual.result c.in_err-begin.ensures.unchanged

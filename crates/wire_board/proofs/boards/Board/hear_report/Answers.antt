@@ -124,16 +124,29 @@ returns-else-some-clause-empty g c =
 pub returns-then-some-clause-applied : goal.returns-then-some-clause-applied
 returns-then-some-clause-applied g c =
     λ same.
+    let number : c.link-link.result ≡ link_no (suc c.args.lead.now.number) c.args.from.0 c.args.lead.now.number =
+    c.link-link.ensures.number ∙ ap (λ (k : ℕ). link_no k c.args.from.0 c.args.lead.now.number) (add-one c.args.lead.now.number)
+    in
     let represents = g.M.SavingMachine.represents in
     let lead = c.args.lead.now in
     let others = c.requires.sits.0 in
+    let old = c.args.place.now.seat.me in
+    let taken = c.take_lead.new.place.seat.me in
+    let out = c.exchange-queue.new.place.seat.me in
+    let new = c.give_back_lead.new.place.seat.me in
     let t = c.take_lead.ensures.taken c.in-Laden.is others c.requires.sits.1 in
-    let is : t.queue ≡ c.exchange-queue.result = lead_queue_is lead others represents c.take_lead.new.place.seat.me c.exchange-queue.new.place.seat.me c.link-link.result _ c.exchange-queue.result t c.exchange-queue.ensures.now c.exchange-queue.ensures.was in
-    let heard = c.hear_one-some.ensures.heard c.if-some.true in (
+    let is : t.queue ≡ c.exchange-queue.result = lead_queue_is lead others represents taken out c.link-link.result _ c.exchange-queue.result t c.exchange-queue.ensures.now c.exchange-queue.ensures.was in
+    let sees = sees_then old taken out (sees_one old taken _ c.take_lead.ensures.found) (sees_same taken out (ap (λ me. me.0.seen) c.exchange-queue.ensures.now)) in
+    let gave = c.give_back_lead.ensures.gave lead others t.queue _ (lead_holds_now lead others represents taken out c.link-link.result _ c.exchange-queue.result t c.exchange-queue.ensures.now c.exchange-queue.ensures.was) in
+    let heard = c.hear_one-some.ensures.heard c.if-some.true in
+    let first = ap (λ (l : LinkView). l.messages) is ∙ heard.1 in (
       heard.0,
-      t.learns c.args.from.0 heard.0 c.hear_one-some.new.queue.messages c.requires.from (c.link-link.ensures.number ∙ ap (λ (k : ℕ). link_no k c.args.from.0 lead.number) (add-one lead.number))
-          (ap (λ (l : LinkView). l.messages) is ∙ heard.1),
+      t.learns c.args.from.0 heard.0 c.hear_one-some.new.queue.messages c.requires.from number first,
       heard.2,
+      t.queue,
+      c.hear_one-some.new.queue.messages,
+      first,
+      subst (λ (i : ℕ). HadQueue old new i t.queue) number (then_had old out new c.link-link.result t.queue sees gave),
     )
 
 pub returns-in-Bare-clause-looked : goal.returns-in-Bare-clause-looked

@@ -1,15 +1,16 @@
-use Rattle.wire_board.specs.Acts.{HearsReport}
-use Rattle.std.proofs.Common.{arith, false, refl, subst, suc, true, ◌∙◌, ◌≡◌, ⊎_elim, ℕ}
+use Rattle.std.proofs.Common.{arith, refl, subst, suc, ◌∙◌, ℕ}
 use borrow.Author.Count.{below_more, below_none}
 use Rattle.link_tables.proofs.Seeing.{sees_same, sees_then}
+use Rattle.wire_board.proofs.Directings.{directed_both, directed_none, lead_stays, report_directed}
 use Rattle.wire_board.proofs.Sighting.{looked_sees, looked_then, then_looked}
+use Rattle.wire_board.specs.Directing.{HasDirectedIf}
 use Rattle.wire_board.specs.Led.{link_no}
 use Rattle.wire_board.specs.Sights.{HasLooked}
 use Rattle.wire_board.proofs.boards.Board.hear_reports.Goals as goal
 
 pub loop-from-init : goal.loop-from-init
 loop-from-init g c =
-    record { table = c.requires.table; sits = λ others s. s; same = refl; sees = sees_same c.args.place.now.seat.me c.args.place.now.seat.me refl; looked = below_none _; led = λ e. let bad : false ≡ true = e in absurd (cc) }
+    record { table = c.requires.table; sits = λ others s. s; same = refl; sees = sees_same c.args.place.now.seat.me c.args.place.now.seat.me refl; looked = below_none _; led = directed_none c.args.lead.now.number c.args.lead.now.coordinator c.args.lead.now.coordinator c.args.place.now.seat.me c.args.place.now.seat.me _ _ (lead_stays c.args.lead.now.coordinator c.args.lead.now.coordinator refl) (sees_same c.args.place.now.seat.me c.args.place.now.seat.me refl) (λ e. absurd (cc)) }
 
 pub loop-from-preserved : goal.loop-from-preserved
 loop-from-preserved g c =
@@ -30,10 +31,13 @@ loop-from-preserved g c =
       looked = below_more (λ k. HasLooked first new (link_no (suc lead.number) k lead.number)) at
           (λ k low. looked_then first old new (link_no (suc lead.number) k lead.number) (i.looked k low) sees)
           (then_looked first old new (link_no (suc lead.number) at lead.number) i.sees looked);
-      led = λ e.
-          ⊎_elim i.led
-          (λ come. let e = c.hear_report-how.ensures.applied (c.has_come.ensures.some come) in (here.coordinator, c.hear_report-how.new.lead.coordinator, (HearsReport at e.0, (e.1, e.2))))
-          (c.either-moved.ensures.some e);
+      led =
+          let there = c.hear_report-how.new.lead.coordinator in
+          let one = c.hear_report-how.ensures in
+          directed_both lead.number lead.coordinator here.coordinator there first old new _ _ _ _ _ _ i.led
+          (subst (λ (n : ℕ). HasDirectedIf n here.coordinator old there new c.has_come.result) i.same
+          (report_directed here.number here.coordinator there old new c.has_come.result at sees c.hear_report-how.result one.applied (λ so. (one.empty so).0) (λ so. (one.busy so).0) c.has_come.ensures.some c.has_come.ensures.none))
+          c.either-moved.ensures.some c.either-moved.ensures.none;
     }
 
 pub returns-clause-looked : goal.returns-clause-looked

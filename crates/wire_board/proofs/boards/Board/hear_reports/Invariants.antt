@@ -1,5 +1,5 @@
-use Rattle.wire_board.specs.Directing.{HasLedOne}
-use Rattle.std.proofs.Common.{List, suc, true, ℕ, ◌<◌, ◌≡◌}
+use Rattle.wire_board.specs.Directing.{HasDirectedIf}
+use Rattle.std.proofs.Common.{List, suc, ℕ, ◌<◌, ◌≡◌}
 use Rattle.wire_board.specs.Led.{link_no}
 use Rattle.wire_board.specs.Seats.{Leads, Seated}
 use Rattle.wire_board.specs.Sights.{HasLooked, Sees}
@@ -12,5 +12,5 @@ invariant-loop-from g l = record {
   same : l.lead.number ≡ l.fn.lead.number;
   sees : Sees l.fn.place.seat.me l.place.seat.me;
   looked : (k : ℕ) → k < l.from → HasLooked l.fn.place.seat.me l.place.seat.me (link_no (suc l.fn.lead.number) k l.fn.lead.number);
-  led : l.moved ≡ true → HasLedOne;
+  led : HasDirectedIf l.fn.lead.number l.fn.lead.coordinator l.fn.place.seat.me l.lead.coordinator l.place.seat.me l.moved;
 }

@@ -74,10 +74,10 @@ returns-in_err-told-clause-sits g c =
     (lead_holds_now lead others g.M.SavingMachine.represents c.take_home_lead.new.place.seat.me c.exchange-queue.new.place.seat.me c.link-link.result _ c.exchange-queue.result t c.exchange-queue.ensures.now c.exchange-queue.ensures.was)
 
 pub returns-then-not-waits-clause-nothing : goal.returns-then-not-waits-clause-nothing
-returns-then-not-waits-clause-nothing g c = λ same. inl (sym c.waits.ensures ∙ c.if-not-waits.true)
+returns-then-not-waits-clause-nothing g c = λ same. (refl, inl (sym c.waits.ensures ∙ c.if-not-waits.true))
 
 pub returns-else-branch-clause-nothing : goal.returns-else-branch-clause-nothing
-returns-else-branch-clause-nothing g c = λ same. inr (c.in_ok-told.ensures.none c.if-branch.false)
+returns-else-branch-clause-nothing g c = λ same. let none = c.in_ok-told.ensures.none c.if-branch.false in (none.0, inr none)
 
 pub returns-then-branch-clause-moved : goal.returns-then-branch-clause-moved
 returns-then-branch-clause-moved g c = λ same. let told = c.in_ok-told.ensures.told c.if-branch.true in (told.0, told.2)
