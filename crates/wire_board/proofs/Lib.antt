@@ -17,3 +17,4 @@ pub mod Turning
 pub mod Sighting
 pub mod Acting
 pub mod Directings
+pub mod Steppings

@@ -11,3 +11,4 @@ pub mod Attempts
 pub mod Acts
 pub mod Halts
 pub mod Directing
+pub mod Stepping

@@ -6,6 +6,7 @@ ghost use Rattle.cluster_step.specs.trace.Traces.{IsSameAttempt, TraceGoesOn};
 ghost use Rattle.link_tables.specs.Seats.{Rests};
 ghost use Rattle.wire_board.specs.Attempts.{AreAwake, AreNumbered, IsBoardOf, numbered_members, resting};
 ghost use Rattle.wire_board.specs.Led.{Lead};
+ghost use Rattle.wire_board.specs.Stepping.{machines_of};
 
 use crate::boards::{About, Board};
 use crate::standings::{Leading, Member, Seated};
@@ -141,6 +142,9 @@ impl<M: SavingMachine> Attempt<M> {
         requires numbers { AreNumbered (suc (length self.trace.now.machines.items)) 0
             self.members.items }
         ensures since { IfOk result (λ t. t.since ≡ t.now) }
+        ensures now { IfOk result (λ t.
+            (t.now.machines.items ≡ machines_of self.members.items) ×
+            (t.now.coordinator ≡ self.lead.coordinator)) }
         ensures same { IfOk result (λ t. IsSameAttempt (record self.trace { since = t.now }) t) }
         ensures goes_on { IfOk result (λ t. TraceGoesOn M.represents self.trace t) }
     {

@@ -4,6 +4,7 @@ ghost use Rattle.link_tables.specs.Seats.{Rests};
 ghost use Rattle.wire_board.specs.Attempts.{AllFrom, AreNumbered, IsSeatOf, resting};
 ghost use Rattle.wire_board.specs.Led.{Lead};
 ghost use Rattle.wire_board.specs.Seats.{Sits};
+ghost use Rattle.wire_board.specs.Stepping.{machines_at, machines_of};
 
 use crate::boards::Board;
 use crate::standings::{Leading, Member, Seated};
@@ -47,6 +48,8 @@ impl<M: SavingMachine> Board<M> {
             Rests place.old.seat.me (Lead lead) (resting members.items) →
             Rests place.new.seat.me (Lead lead) []) }
         ensures many { IfOk result (λ seats. length seats.items ≡ length members.items) }
+        ensures machines { IfOk result (λ seats.
+            machines_at seats.items ≡ machines_of members.items) }
         ensures tables { IfOk result (λ seats. AllFrom (λ a seat.
             seat.place.seat.table_id ≡ self.now.table.table.shared.table_id) 0 seats.items) }
         ensures seats { IfOk result (λ seats. AllFrom (λ a seat.
@@ -111,6 +114,8 @@ impl<M: SavingMachine> Board<M> {
             Rests place.old.seat.me (Lead lead) [] →
             Rests place.new.seat.me (Lead lead) (resting members.items)) }
         ensures many { IfOk result (λ members. length members.items ≡ length seats.items) }
+        ensures machines { IfOk result (λ members.
+            machines_of members.items ≡ machines_at seats.items) }
         ensures numbers { IfOk result (λ members. AreNumbered _peers 0 members.items) }
     {
         let mut members = Vec::with_capacity(alloc, seats.len())?;

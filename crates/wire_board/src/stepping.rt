@@ -2,11 +2,12 @@
 ghost use Rattle.std.specs.Prelude.{◌≡◌, ◌+◌, ◌*◌, ◌^◌, ◌<◌, ◌≤◌, ◌∷◌, ℕ, suc, true, List, [], length, IfOk, OnOk};
 ghost use Rattle.cluster_step.specs.trace.Traces.{IsSameAttempt, TraceGoesOn};
 ghost use Rattle.link_tables.specs.Seats.{Rests};
-ghost use Rattle.wire_board.specs.Acts.{HasMadeOne, HasMovedIf};
+ghost use Rattle.wire_board.specs.Acts.{HasMovedIf};
 ghost use Rattle.wire_board.specs.Attempts.{AllFrom, AreNumbered, IsBoardOf, IsSeatOf, resting};
 ghost use Rattle.wire_board.specs.Directing.{HasDirectedIf};
 ghost use Rattle.wire_board.specs.Led.{Lead};
 ghost use Rattle.wire_board.specs.Seats.{Leads, Sits};
+ghost use Rattle.wire_board.specs.Stepping.{HasMadeByOne, HasStepped, machines_at, machines_of};
 
 use crate::attempts::{Attempt, TOO_MANY};
 use crate::boards::Board;
@@ -62,8 +63,10 @@ pub fn step_on_board<M: EagerMachine>(
 ) -> Result<(Trace<M>, bool), NoMemory>
     ensures same { IfOk result (λ t. IsSameAttempt (record trace { since = t.0.now }) t.0) }
     ensures goes_on { IfOk result (λ t. TraceGoesOn M.represents trace t.0) }
-    ensures moved { IfOk result (λ t. t.1 ≡ true →
-        HasMadeOne M.represents (suc (length trace.now.machines.items))) }
+    ensures moved { IfOk result (λ t.
+        HasStepped M.represents (length trace.now.machines.items)
+        trace.now.machines.items trace.now.coordinator
+        t.0.now.machines.items t.0.now.coordinator t.1) }
 {
     if trace.is_stopped() || !trace.are_all_awake() || trace.machines() >= TOO_MANY {
         let mut trace = trace;
@@ -108,8 +111,10 @@ impl<M: EagerMachine> Attempt<M> {
             length t.0.members.items ≡ length self.trace.now.machines.items) }
         ensures numbers { IfOk result (λ t.
             AreNumbered (suc (length self.trace.now.machines.items)) 0 t.0.members.items) }
-        ensures moved { IfOk result (λ t. t.1 ≡ true →
-            HasMadeOne M.represents (suc (length self.trace.now.machines.items))) }
+        ensures moved { IfOk result (λ t.
+            HasStepped M.represents (length self.trace.now.machines.items)
+            (machines_of self.members.items) self.lead.coordinator
+            (machines_of t.0.members.items) t.0.lead.coordinator t.1) }
     {
         let Attempt {
             trace,
@@ -173,8 +178,10 @@ impl<M: EagerMachine> Board<M> {
             IsSeatOf M.represents (suc (length seats.old.items))
             self.now.table.table.shared.key.about.done.value.items a seat.member
             seat.place.seat.me seat.before) 0 seats.new.items) }
-        ensures moved { IfOk result (λ moved. moved ≡ true →
-            HasMadeOne M.represents (suc (length seats.old.items))) }
+        ensures moved { IfOk result (λ moved.
+            HasStepped M.represents (length seats.old.items)
+            (machines_at seats.old.items) first.old.lead.coordinator
+            (machines_at seats.new.items) first.new.lead.coordinator moved) }
     {
         let mut moved = false;
         for step in steps {
@@ -209,8 +216,9 @@ impl<M: EagerMachine> Board<M> {
             IsSeatOf M.represents (suc (length seats.old.items))
             self.now.table.table.shared.key.about.done.value.items a seat.member
             seat.place.seat.me seat.before) 0 seats.new.items) }
-        ensures moved { IfOk result (λ moved. moved ≡ true →
-            HasMadeOne M.represents (suc (length seats.old.items))) }
+        ensures moved { IfOk result (λ moved.
+            HasMadeByOne M.represents (length seats.old.items)
+            (machines_at seats.old.items) (machines_at seats.new.items) moved) }
     {
         let SeatStep::Node(at, what) = step else {
             return Ok(false);

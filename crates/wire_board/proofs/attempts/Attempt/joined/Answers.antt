@@ -68,3 +68,6 @@ returns-clause-goes_on g c =
     (goes_on g.M.SavingMachine.represents a.trace a.failed.items about.machines about.failures.value.items about.done.value.items about.opening.value a.board.table.many a.board.table.top c.requires.board
     a.lead a.members.items c.requires.lead c.requires.many c.requires.numbers a.place.seat.me c.requires.place c.close-list.result.0.items c.close-list.result.1 e.0 e.2 _ c.in_ok-machines.ensures refl refl
     c.in_ok-links.ensures.have c.in_ok-links.ensures.each refl (omega arith) refl)
+
+pub returns-clause-now : goal.returns-clause-now
+returns-clause-now g c = let is = c.joined.ensures.trace in (ap (λ v. v.now.machines.items) is ∙ c.in_ok-machines.ensures, ap (λ v. v.now.coordinator) is)

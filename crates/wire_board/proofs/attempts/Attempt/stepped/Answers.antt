@@ -1,8 +1,8 @@
-use Rattle.wire_board.specs.Acts.{HasMadeOne}
 use Rattle.std.proofs.Common.{List, [], arith, length, refl, subst, suc, sym, ◌+◌, ◌∙◌, ◌≡◌, ℕ}
 use Rattle.wire_board.proofs.Attempting.{all_map}
 use Rattle.wire_board.specs.Attempts.{AllFrom, AreNumbered, IsSeatOf}
 use Rattle.wire_board.specs.Seats.{Sits}
+use Rattle.wire_board.specs.Stepping.{HasStepped, machines_at, machines_of}
 use Rattle.wire_board.proofs.attempts.Attempt.stepped.Goals as goal
 
 pub make_steps-requires-clause-leads : goal.make_steps-requires-clause-leads
@@ -39,4 +39,13 @@ returns-clause-numbers g c =
 
 pub returns-clause-moved : goal.returns-clause-moved
 returns-clause-moved g c =
-    λ e. subst (λ (n : ℕ). HasMadeOne g.M.SavingMachine.represents (suc n)) (c.in_ok-seats.ensures.many ∙ c.requires.many) (c.in_ok-moved.ensures.moved e)
+    let represents = g.M.SavingMachine.represents in
+    let lead = c.args.self.lead.coordinator in
+    let new = c.make_steps.new.first.lead.coordinator in
+    let some = c.in_ok-moved.moved in
+    let n = length c.args.self.trace.now.machines.items in
+    let xs = machines_of c.args.self.members.items in
+    let ys = machines_at c.make_steps.new.seats.items in
+    subst (λ (l : List g.row.M.Denot). HasStepped represents n xs lead l new some) (sym c.in_ok-members.ensures.machines)
+    (subst (λ (l : List g.row.M.Denot). HasStepped represents n l lead ys new some) c.in_ok-seats.ensures.machines
+    (subst (λ (k : ℕ). HasStepped represents k (machines_at c.in_ok-seats.seats.items) lead ys new some) (c.in_ok-seats.ensures.many ∙ c.requires.many) c.in_ok-moved.ensures.moved))

@@ -1,9 +1,11 @@
-use Rattle.std.proofs.Common.{List, [], ap, arith, length, length-append, rules, subst, suc, sym, ◌+◌, ◌∙◌, ◌∷◌, ◌≡◌, ℕ}
+use Rattle.std.proofs.Common.{List, [], ap, arith, append-nil, length, length-append, rules, subst, suc, sym, ◌++◌, ◌+◌, ◌∙◌, ◌∷◌, ◌≡◌, ℕ}
 use Rattle.std.specs.Vec.Iter.{into_iter_items}
 use Rattle.link_tables.proofs.Taking.{nothing_left}
 use Rattle.link_tables.specs.Seats.{Rests}
-use Rattle.wire_board.proofs.Attempting.{all_snoc}
+use Rattle.wire_board.proofs.Attempting.{all_snoc, map_next}
+use Rattle.wire_board.proofs.Steppings.{map_snoc}
 use Rattle.wire_board.specs.Attempts.{AllFrom, AreNumbered, IsSeatOf, Lead, Member, resting}
+use Rattle.wire_board.specs.Stepping.{NodeSeat, machines_at, machines_of}
 use Rattle.wire_board.proofs.boards.Board.seat_each.Goals as goal
 
 pub seat_one-seat-requires-clause-first : goal.seat_one-seat-requires-clause-first
@@ -45,6 +47,9 @@ loop-member-preserved g c =
       table = search rules;
       alone = λ lead r. c.seat_one-seat.ensures.behind lead rest (subst (λ (xs : List (Member g.row.M.Denot)). Rests at.place.seat.me (Lead lead) (resting xs)) steps (at.invariant.alone lead r));
       numbers = subst (λ (k : ℕ). AreNumbered (suc (length c.args.members.items)) k rest) (sym grown) are.2;
+      machines = map_next (λ (y : Member g.row.M.Denot). y.machine) (machines_at at.seats.items) x rest (machines_at c.push_reserved.new.self.items)
+          (ap machines_at c.push_reserved.ensures.items ∙ map_snoc (λ (s : NodeSeat g.row.M.Denot). s.member.machine) at.seats.items c.seat_one-seat.result ∙ ap (λ (y : Member g.row.M.Denot). machines_at at.seats.items ++ y.machine ∷ []) c.seat_one-seat.ensures.same)
+          ∙ ap (λ (l : List (Member g.row.M.Denot)). machines_at at.seats.items ++ machines_of l) (sym steps) ∙ at.invariant.machines;
       count = omega arith;
       tables = subst (AllFrom (λ a seat. seat.place.seat.table_id ≡ c.args.self.now.table.table.shared.table_id) 0) (sym c.push_reserved.ensures.items)
           (all_snoc (λ a seat. seat.place.seat.table_id ≡ c.args.self.now.table.table.shared.table_id) 0 at.seats.items c.seat_one-seat.result at.invariant.tables c.seat_one-seat.ensures.its_table);
@@ -61,3 +66,9 @@ returns-clause-alone g c = λ lead r.
     let at = c.loop-member in
     let empty : into_iter_items at.member-iterator ≡ [] = nothing_left (into_iter_items at.member-iterator) (sym at.invariant.many ∙ c.in-None.ensures.steps.0) in
     subst (λ (xs : List (Member g.row.M.Denot)). Rests at.place.seat.me (Lead lead) (resting xs)) empty (at.invariant.alone lead r)
+
+pub returns-clause-machines : goal.returns-clause-machines
+returns-clause-machines g c =
+    let at = c.loop-member in
+    let empty : into_iter_items at.member-iterator ≡ [] = nothing_left (into_iter_items at.member-iterator) (sym at.invariant.many ∙ c.in-None.ensures.steps.0) in
+    sym (append-nil (machines_at at.seats.items)) ∙ ap (λ (l : List (Member g.row.M.Denot)). machines_at at.seats.items ++ machines_of l) (sym empty) ∙ at.invariant.machines

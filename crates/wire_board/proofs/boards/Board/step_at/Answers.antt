@@ -1,6 +1,9 @@
-use Rattle.wire_board.proofs.Acting.{one_moved}
-use Rattle.wire_board.specs.Acts.{HasMadeOne}
-use Rattle.std.proofs.Common.{ap, length, length-set, rules, subst, suc, sym, ◌*◌, ◌+◌, ◌<◌, ◌^◌, ◌∙◌, ◌≡◌, ℕ}
+use Rattle.std.proofs.lemmas.List.{length-map}
+use Rattle.wire_board.proofs.Acting.{made_at}
+use Rattle.wire_board.proofs.Steppings.{made_none, map_put, map_read}
+use Rattle.wire_board.specs.Acts.{AreMade}
+use Rattle.wire_board.specs.Stepping.{machines_at}
+use Rattle.std.proofs.Common.{arith, inl, length, length-set, rules, subst, suc, sym, ◌*◌, ◌+◌, ◌<◌, ◌^◌, ◌∙◌, ◌≡◌, ℕ}
 use Rattle.std.proofs.lemmas.List.{get_or_read}
 use Rattle.wire_board.proofs.Attempting.{all_at, all_set, own_seat, seat_again}
 use Rattle.wire_board.proofs.Sighting.{if_ok_to, on_ok_to}
@@ -55,13 +58,31 @@ returns g c =
     let low : a < length seats = search rules in
     let s = subst (λ (s : NodeSeat g.row.M.Denot). IsSeatOf represents peers done (0 + a) s.member s.place.seat.me s.before) (sym (get_or_read seats a x low c.index_mut.ensures.value x))
     (all_at (λ a seat. IsSeatOf represents peers done a seat.member seat.place.seat.me seat.before) 0 seats a x low c.requires.seats) in
+    let none_more : 0 + a ≡ a = omega arith in
     record {
       many = on_ok_to c.step_of.result (λ t. length-set seats a new) c.step_of.ensures.table;
       tables = on_ok_to c.step_of.result (λ t. all_set (λ a seat. seat.place.seat.table_id ≡ c.args.self.now.table.table.shared.table_id) 0 seats a new c.requires.tables t) c.step_of.ensures.table;
       seats = on_ok_to c.step_of.result (λ t. all_set (λ a seat. IsSeatOf represents peers done a seat.member seat.place.seat.me seat.before) 0 seats a new c.requires.seats
           (seat_again represents done new.place.seat.me new.before peers (0 + a) x.member.number x.member.peers new.member s.number s.peers_are t)) c.step_of.ensures.seat;
       moved = if_ok_to c.step_of.result _ _
-          (λ some moved is. subst (HasMadeOne represents) s.peers_are
-          (one_moved represents c.args.self.now.table.many x.member.peers x.member.number x.member.machine new.member.machine x.place.seat.me new.place.seat.me some
-          (sym c.requires.links.0 ∙ ap (λ (k : ℕ). k * k) (sym s.peers_are)) moved is)) c.step_of.ensures.moved;
+          (λ some moved. (
+            moved.0,
+            inl (
+              a,
+              x.member.machine,
+              new.member.machine,
+              x.place.seat.me,
+              new.place.seat.me,
+              subst (λ (k : ℕ). a < k) (sym (length-map seats (λ (s : NodeSeat g.row.M.Denot). s.member.machine))) low,
+              map_read (λ (s : NodeSeat g.row.M.Denot). s.member.machine) seats a x low c.index_mut.ensures.value,
+              map_put (λ (s : NodeSeat g.row.M.Denot). s.member.machine) seats a new,
+              subst (λ (k : ℕ). AreMade represents k peers a moved.0 x.member.machine x.place.seat.me new.member.machine new.place.seat.me) (sym c.requires.links.0)
+                  (made_at represents c.args.self.now.table.many peers x.member.peers a x.member.number moved.0 x.member.machine new.member.machine x.place.seat.me new.place.seat.me s.peers_are (s.number ∙ none_more) moved.1),
+            ),
+            moved.2,
+            moved.3,
+          )) c.step_of.ensures.moved;
     }
+
+pub returns-in_default-clause-moved : goal.returns-in_default-clause-moved
+returns-in_default-clause-moved g c = made_none g.M.SavingMachine.represents (length c.args.seats.now.items) (machines_at c.args.seats.now.items)
