@@ -1,6 +1,7 @@
 -- What is promised of one that stands for machines of the law is promised of another that stands for the same ones.
 use Rattle.std.proofs.Common.{ℕ}
 use Rattle.coordinator.specs.machine_api.AtOnce.{HasUpdatedAtOnce}
+use Rattle.coordinator.specs.machine_api.InTurn.{HasGrantedInTurn}
 use Rattle.coordinator.specs.machine_api.Promises.{HasHeard, HasReceived, IsReporting, Machine, MayHearCall, MayReceiveFirst, OfEach, SendsItsFirst, Setting}
 use Rattle.wire.specs.declared.wire_msgs.messages.Message.{Message}
 
@@ -20,6 +21,9 @@ module _ {M N : Type 0} (one : Setting → ℕ → Machine → M → Type 0) (ot
 module _ {M N : Type 0} (one : Setting → ℕ → Machine → M → Type 0) (other : Setting → ℕ → Machine → N → Type 0) (x new : M) (y renewed : N) (back : StandsAs other one y x) (on : StandsAs one other new renewed) where
   pub updated_as : (v ticket : ℕ) → HasUpdatedAtOnce one x v ticket new → HasUpdatedAtOnce other y v ticket renewed
   updated_as v ticket has st a m snap is = let done = has st a m snap (back st a m is) in record { may = done.may; after = done.after; done = done.done; here = on st a done.after done.here }
+
+  pub granted_as : (v : ℕ) → HasGrantedInTurn one x v new → HasGrantedInTurn other y v renewed
+  granted_as v has = (has.0, λ st a m snap is. let done = has.1 st a m snap (back st a m is) in record { after = done.after; done = done.done; here = on st a done.after done.here })
 
   pub received_as : (p : ℕ) (message : Message) → HasReceived one x p message new → HasReceived other y p message renewed
   received_as p message has st c a front = on st a _ (has st c a (record { setting = front.setting; going = front.going; machine = front.machine; here = back st a _ front.here; behind = front.behind; first = front.first }))

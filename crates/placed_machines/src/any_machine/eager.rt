@@ -1,7 +1,8 @@
-//! Updates at once whose vertex is found before the ticket is drawn, of a machine of either engine.
+//! Updates at once whose vertex is found before the ticket is drawn, and locks that are granted in
+//! turn, of a machine of either engine.
 use crate::any_machine::machines::AnyMachine;
 use coordinator::machine_api::EagerMachine;
-use gl_base::{NoMemory, Vertex};
+use gl_base::{NoMemory, Refused, Vertex};
 use update_api::Program;
 
 impl<P: Program> EagerMachine for AnyMachine<P> {
@@ -20,6 +21,13 @@ impl<P: Program> EagerMachine for AnyMachine<P> {
         match self {
             AnyMachine::Locking(machine) => machine.update_now(v, ticket),
             AnyMachine::Chromatic(machine) => machine.update_now(v, ticket),
+        }
+    }
+
+    fn grant_in_turn(&mut self, x: Vertex) -> Result<(), Refused> {
+        match self {
+            AnyMachine::Locking(machine) => machine.grant_in_turn(x),
+            AnyMachine::Chromatic(machine) => machine.grant_in_turn(x),
         }
     }
 }

@@ -1,7 +1,7 @@
 //! Updates at once whose vertex is found before the ticket is drawn.
 use crate::chromatic::machines::ChromaticMachine;
 use coordinator::machine_api::EagerMachine;
-use gl_base::{NoMemory, Vertex};
+use gl_base::{NoMemory, Refused, Vertex};
 use update_api::Program;
 
 impl<P: Program> EagerMachine for ChromaticMachine<P> {
@@ -19,5 +19,10 @@ impl<P: Program> EagerMachine for ChromaticMachine<P> {
         self.ask();
         self.prompt();
         Ok(())
+    }
+
+    /// Scopes take no locks, so nobody waits for one.
+    fn grant_in_turn(&mut self, _x: Vertex) -> Result<(), Refused> {
+        Err(Refused::NotNow)
     }
 }

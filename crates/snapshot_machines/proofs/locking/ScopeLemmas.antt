@@ -1,7 +1,8 @@
 -- How scopes are admitted and go on, for each machine of the law.
-use Rattle.std.proofs.Common.{◌≡◌, ◌≢◌, ◌⊎◌, ℕ, suc, ◌+◌, ◌<◌, not, Bool, true, false, true≢false, if◌then◌else◌, Option, None, Some, List, length, refl, sym, ap, ◌∙◌, subst, ⊎_elim, inl, inr, add-one}
+use Rattle.std.proofs.Common.{◌≡◌, ◌≢◌, ◌⊎◌, ℕ, suc, ◌+◌, ◌<◌, ◌&&◌, ◌||◌, not, Bool, true, false, true≢false, if◌then◌else◌, Option, None, Some, List, [], ◌∷◌, length, map, refl, sym, ap, ◌∙◌, subst, ⊎_elim, inl, inr, add-one}
 use Rattle.std.proofs.lemmas.Bool.{cases_Bool}
 use Rattle.std.proofs.lemmas.List.{get_or-set_other, get_or-set_same}
+use Rattle.std.specs.Prelude.{is_some}
 use Rattle.gl_base.specs.declared.numbers.Vertex.{Vertex}
 use Rattle.gl_base.specs.declared.scopes.ScopeId.{ScopeId}
 use Rattle.update_api.specs.Updates.{Update}
@@ -13,7 +14,8 @@ use Rattle.cluster_laws.specs.cluster_core.Settings.{Chromatic, Engine, Locking}
 use Rattle.cluster_laws.proofs.cluster_core.Basics.{scope_cases, set_for-other, set_for-same}
 use Rattle.whole_laws.proofs.cluster_ending.Growing.{admitted_longer, granted_longer}
 use Rattle.cluster_laws.specs.cluster_model.Events.{MayAdmitNow}
-use Rattle.cluster_laws.specs.cluster_model.Working.{admits, grants, has_room}
+use Rattle.cluster_laws.specs.cluster_model.Working.{admits, answers_if, grants, has_room, is_done, prompt}
+use Rattle.cluster_laws.specs.interior_scopes.InTurn.{AreGranted}
 use Rattle.cluster_laws.proofs.cluster_moves.DueKept.{IsKept, admitted_kept, first_granted_kept}
 use Rattle.partition.specs.machine_numbers.Views.{AreTasksOf, TasksView}
 use Rattle.partition.specs.declared.machine_numbers.keeping.Numbers.{Numbers}
@@ -24,6 +26,7 @@ use Rattle.machine_core.specs.machine_parts.Parts.{number_of}
 use Rattle.machine_core.specs.machine_parts.Settings.{SameSettings}
 use Rattle.machine_core.specs.machine_scopes.Admitting.{CanAdmitPick, HasAdmittedPick, HaveSamePlans, KeepsPlans, MayAdmitNone, with_pick}
 use Rattle.machine_core.specs.machine_scopes.Granting.{HasGrantedLock, MayGrantLock, MayNotGrantLock}
+use Rattle.machine_core.specs.machine_scopes.Granting as turns
 use Rattle.machine_core.proofs.machine_scopes.HeldLemmas.{own_from_setting}
 use Rattle.snapshot_machines.specs.saving.Machines.{SnapMachineView, outside_of}
 use Rattle.cluster_laws.proofs.known_parts.GuardLemmas.{admit_may, alike_turned, grant_may}
@@ -31,6 +34,7 @@ use Rattle.cluster_laws.proofs.known_parts.SeenLemmas.{admit_alike, grant_alike}
 use Rattle.snapshot_machines.proofs.marking.ApartLemmas.{admit_apart, grant_apart}
 use Rattle.coordinator.specs.machine_api.Deeds.{Grant}
 use Rattle.coordinator.specs.machine_api.Going.{IsSnapSetting}
+use Rattle.coordinator.specs.machine_api.InTurn.{AreDone, HasGrantedInTurn}
 use Rattle.coordinator.specs.machine_api.Promises.{CanAdmit, CanDo, CanNotAdmit, CanNotDo, HasAdmittedSome, HasDone, StandsStill}
 use Rattle.task_sets.specs.task_sched.Tasks.{is_flagged, is_open}
 use Rattle.task_sets.specs.declared.task_sched.task_sets.Pick.{Pick}
@@ -339,6 +343,88 @@ module _ {P : Type 0} (meaning : P → Update) (x : LockingMachineView P) (now :
             (counts_put_out st x.counts m new is.counts (granted_longer st a v m.part) refl refl refl)),
       )
 
+-- ---- one lock after another
+
+-- a machine that holds no wave answers none
+calm : (st : Setting) (a : ℕ) (m : Machine) → m.held ≡ None → prompt st a m ≡ m
+calm st a m none =
+    ap (λ (held : Option ℕ). answers_if st (is_some held && is_done st.engine st a m) m) none ∙ ap (λ (c : Bool). record m { part = record m.part { closed = c } }) (same m.part.closed)
+  where
+    same : (c : Bool) → (c || false) ≡ c
+    same true = refl
+    same false = refl
+
+kept_on : (one two three : Part) → IsKept one two → IsKept two three → IsKept one three
+kept_on one two three first second =
+    record {
+      flight = λ s. second.flight s ∙ first.flight s;
+      pending = λ v is. second.pending v (first.pending v is);
+      task = λ v is. second.task v (first.task v is);
+      flying = second.flying ∙ first.flying;
+      serial = second.serial ∙ first.serial;
+    }
+
+-- The locks of these vertices may be granted in turn at m, which looks like a part then.
+record AreGrantedHere (st : Setting) (a : ℕ) (w : SnapView) (counts : CountsView) (locks : List ℕ) (m : Machine) (last : Part) : Type 0 where
+  after : Machine
+  done : AreDone st a (map Grant locks) m after
+  alike : LooksAlike st a after.part (with_snaps w last)
+  kept : IsKept m.part after.part
+  same : HasSameRest m after
+  counted : IsCountOf st counts after
+
+granted_here : (st : Setting) (a : ℕ) (w : SnapView) (counts : CountsView) (locks : List ℕ) (m : Machine) (part last : Part) → LooksAlike st a m.part (with_snaps w part) → m.held ≡ None → IsCountOf st counts m
+    → AreGranted st a locks part last → AreGrantedHere st a w counts locks m last
+granted_here st a w counts [] m part last alike none counted is =
+    record {
+      after = m;
+      done = refl;
+      alike = alike_to st a m.part (with_snaps w part) (with_snaps w last) alike (ap (with_snaps w) is);
+      kept = record { flight = λ s. refl; pending = λ v set. set; task = λ v set. set; flying = refl; serial = refl };
+      same = record { planned = refl; plans = refl; acknowledged = refl; wanted = refl; before = refl; behind = refl; unsure = refl; held = refl; out = refl };
+      counted = counted;
+    }
+granted_here st a w counts (v ∷ more) m part last alike none counted is =
+    let one : Machine = grants st a v m in
+    let first : MayGrant st a v part = is.0 in
+    let may : MayGrant st a v m.part =
+    grant_may st a (with_snaps w part) m.part (alike_turned st a m.part (with_snaps w part) alike) v
+    (record { vertex = first.vertex; owned = first.owned; claim = first.claim; behind = first.behind; first = first.first; together = first.together }) in
+    let next : LooksAlike st a one.part (with_snaps w (granted st a v part)) =
+    alike_to st a one.part (granted st a v (with_snaps w part)) (with_snaps w (granted st a v part)) (grant_alike st a v m.part (with_snaps w part) alike) (sym (grant_apart st a v w part)) in
+    let rest : AreGrantedHere st a w counts more one last =
+    granted_here st a w counts more one (granted st a v part) last next none (counts_put_out st counts m one counted (granted_longer st a v m.part) refl refl refl) is.1 in
+    record {
+      after = rest.after;
+      done = (may, subst (λ (n : Machine). AreDone st a (map Grant more) n rest.after) (sym (calm st a one none)) rest.done);
+      alike = rest.alike;
+      kept = kept_on m.part one.part rest.after.part (first_granted_kept st a v (m.part.queue v) m.part) rest.kept;
+      same = record {
+        planned = rest.same.planned;
+        plans = rest.same.plans;
+        acknowledged = rest.same.acknowledged;
+        wanted = rest.same.wanted;
+        before = rest.same.before;
+        behind = rest.same.behind;
+        unsure = rest.same.unsure;
+        held = rest.same.held;
+        out = rest.same.out;
+      };
+      counted = rest.counted;
+    }
+
+module _ {P : Type 0} (meaning : P → Update) (x : LockingMachineView P) (now : Core) (numbers : now.numbers ≡ x.machine.core.numbers) (settings : SameSettings x.machine.core now) where
+  granted_more : (v : ℕ) → turns.HasGrantedInTurn x.machine.core now v → HasGrantedInTurn (IsLockingMachineOf meaning) x v (record x { machine = with_core now x.machine })
+  granted_more v has = (
+    has.0,
+    λ st a m snap is.
+        let core : Core = x.machine.core in
+        let g : AreGrantedHere st a x.machine.kept x.counts (v ∷ has.0) m (part_of now) =
+        granted_here st a x.machine.kept x.counts (v ∷ has.0) m (part_of core) (part_of now) is.part is.none_held is.counts
+        (subst (λ (k : ℕ). AreGranted st k (v ∷ has.0) (part_of core) (part_of now)) is.number (has.1 st is.here)) in
+        record { after = g.after; done = g.done; here = goes_on_standing meaning x now numbers settings st a m g.after x.counts is g.alike g.kept g.same g.counted },
+  )
+
 module _ {P : Type 0} (meaning : P → Update) (x : LockingMachineView P) where
   pub can_grant : (v : ℕ) → MayGrantLock x.machine.core v → CanDo (IsLockingMachineOf meaning) x (Grant v)
   can_grant v may st a m snap is = grant_here meaning st a m x is v (may st is.here)
@@ -393,3 +479,6 @@ module _ {P : Type 0} (meaning : P → Update) (x : LockingMachineView P) (now :
 
   pub grant_back_now : now.core.numbers ≡ x.machine.core.numbers → part_of now.core ≡ part_of x.machine.core → StandsStill (IsLockingMachineOf meaning) x (record x { machine = now })
   grant_back_now numbers part = to_now x now kept program x.counts (StandsStill (IsLockingMachineOf meaning) x) (stays_standing meaning x now.core numbers part settings)
+
+  pub granted_more_now : now.core.numbers ≡ x.machine.core.numbers → (v : ℕ) → turns.HasGrantedInTurn x.machine.core now.core v → HasGrantedInTurn (IsLockingMachineOf meaning) x v (record x { machine = now })
+  granted_more_now numbers v has = to_now x now kept program x.counts (HasGrantedInTurn (IsLockingMachineOf meaning) x v) (granted_more meaning x now.core numbers settings v has)

@@ -1,7 +1,8 @@
-//! Updates at once whose vertex is found before the ticket is drawn.
+//! Updates at once whose vertex is found before the ticket is drawn, and locks that are granted in
+//! turn.
 use crate::locking::machines::LockingMachine;
 use coordinator::machine_api::EagerMachine;
-use gl_base::{NoMemory, Vertex};
+use gl_base::{NoMemory, Refused, Vertex};
 use machine_core::machine_at_once::Found;
 use update_api::Program;
 
@@ -23,6 +24,13 @@ impl<P: Program> EagerMachine for LockingMachine<P> {
         self.machine
             .update_found(Found { place, vertex: v }, ticket)?;
         self.ask();
+        Ok(())
+    }
+
+    fn grant_in_turn(&mut self, x: Vertex) -> Result<(), Refused> {
+        if let Err(refused) = self.machine.grant_in_turn(x) {
+            return Err(refused);
+        }
         Ok(())
     }
 }

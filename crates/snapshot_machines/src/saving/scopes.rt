@@ -2,7 +2,7 @@
 ghost use Rattle.std.specs.Prelude.{◌≡◌, ◌↔◌, ℕ, ◌<◌, true, false, IfOk, IfErr, IfSome, IfNone, IsOk, OnOk, OnErr, IsErrOf};
 ghost use Rattle.machine_core.specs.machine_scopes.Admitting.{CanAdmitPick, HasAdmittedPick, KeepsPlans, MayAdmitNone, next_id};
 ghost use Rattle.machine_core.specs.machine_scopes.Asking.{AreMachinesFor, Ask, CanBecomeReady, HasOnlyMadeRoom, HasReceivedMessage, IsNewAt, Ready, come, machine_numbers};
-ghost use Rattle.machine_core.specs.machine_scopes.Granting.{HasGrantedLock, MayGrantLock, MayNotGrantLock, WaitsFirst, WantedNext};
+ghost use Rattle.machine_core.specs.machine_scopes.Granting.{HasGrantedInTurn, HasGrantedLock, MayGrantLock, MayNotGrantLock, WaitsFirst, WantedNext};
 ghost use Rattle.machine_core.specs.step_scopes.Admitting.{CanTake, HasAdmittedInStep, HasPlaceInFlight};
 ghost use Rattle.snapshot_machines.specs.saving.Machines.{IsBetweenCalls, IsOrderly, SameSettings, part_of};
 
@@ -74,6 +74,25 @@ impl<P: Program> SnapMachine<P> {
         ensures settings { SameSettings self.old.core self.new.core }
     {
         machine_core::machine_scopes::grant(&mut self.core, x)
+    }
+
+    /// The first that waits for the lock of x holds it, where it goes together with each holder,
+    /// and goes on; and then it is granted one lock after another for which it asks here, where
+    /// nobody else claims that.
+    pub fn grant_in_turn(&mut self, x: Vertex) -> Result<ScopeId, Refused>
+        ensures granted { IfOk result (λ scope.
+            HasGrantedInTurn self.old.core self.new.core x.0) }
+        ensures scope { IfOk result (λ scope. WaitsFirst self.old.core x.0 scope) }
+        ensures not_now { IsErrOf result Refused.NotNow → MayNotGrantLock self.old.core x.0 }
+        ensures no_memory { IsErrOf result Refused.NoMemory → MayGrantLock self.old.core x.0 }
+        ensures unchanged { OnErr result (part_of self.new.core ≡ part_of self.old.core) }
+        ensures numbers { self.new.core.numbers ≡ self.old.core.numbers }
+        ensures kept { self.new.kept ≡ self.old.kept }
+        ensures program { self.new.program ≡ self.old.program }
+        ensures terms { self.new.core.terms ≡ self.old.core.terms }
+        ensures settings { SameSettings self.old.core self.new.core }
+    {
+        machine_core::machine_scopes::grant_in_turn(&mut self.core, x)
     }
 
     /// A vertex whose lock may be granted, and `None` exactly where there is none. It takes no
