@@ -21,6 +21,36 @@ pub struct Work {
     pub near: Vec<u64>,
 }
 
+impl Work {
+    /// Makes the update of the work in its own lists: the program may write the number of the
+    /// vertex and those of its edges.
+    pub fn update<P: Program>(&mut self, program: &P) -> Woken
+        requires row { IsRow self.old.row.links.items (length self.old.near.items) }
+        requires edges { length self.old.row.numbers.items ≡ length self.old.near.items }
+        ensures rest { self.new ≡ record self.old {
+          value = self.new.value;
+          row = record self.old.row { numbers = self.new.row.numbers };
+        } }
+        ensures many { length self.new.row.numbers.items ≡ length self.old.row.numbers.items }
+        ensures number { self.new.value ≡ (P.meaning program.now).number self.old.value
+            (nears_at (self.old.near.items ++ self.old.value ∷ []) self.old.row.numbers.items
+            self.old.row.links.items) }
+        ensures marks { AreMarked ((P.meaning program.now).mark self.new.value)
+            (self.old.near.items ++ self.old.value ∷ []) self.old.row.numbers.items
+            self.old.row.links.items self.new.row.numbers.items }
+        ensures woken { result ≡ (P.meaning program.now).woken self.old.value self.new.value }
+    {
+        update_scope(
+            program,
+            self.id,
+            &self.row.links,
+            &self.near,
+            &mut self.value,
+            &mut self.row.numbers,
+        )
+    }
+}
+
 /// Works of one machine.
 #[derive(Drop)]
 pub struct Batch {

@@ -53,11 +53,11 @@ renewed_mark d x = by (x == d.value)
 -- its mark stays
 pub made_marks : (p : Update) (old new : Numbers) (v : Vertex) (entry : Entry) → HasMadeHere p old new v entry → (u : ℕ) → (datum_here new u).mark ≡ (datum_here old u).mark
 made_marks p old new v entry made u =
-    let c = made.outcome.work.vertex.0 in
+    let c = made.made.vertex.0 in
     let d = datum_here old c in
     ap (λ (x : Datum). x.mark) (made.updated.datum u)
-    ∙ set_at-cases (λ (x : Datum). x.mark ≡ (datum_here old u).mark) (datum_here old) c (renewed d made.outcome.value) u
-    (λ same. renewed_mark d made.outcome.value ∙ ap (λ (j : ℕ). (datum_here old j).mark) (sym same)) (λ off. refl)
+    ∙ set_at-cases (λ (x : Datum). x.mark ≡ (datum_here old u).mark) (datum_here old) c (renewed d made.made.value) u
+    (λ same. renewed_mark d made.made.value ∙ ap (λ (j : ℕ). (datum_here old j).mark) (sym same)) (λ off. refl)
 
 pub back_marks : (old new : Numbers) → HasSameNumbers old new → (u : ℕ) → (datum_here new u).mark ≡ (datum_here old u).mark
 back_marks old new same u = ap (λ (k : Numbers). (datum_here k u).mark) same.rest
@@ -70,8 +70,8 @@ can_be_made m v is own = record { sides = is.numbers.sides v.0 own; tasks = is.n
 
 made_numbers : (p : Update) (old new : Numbers) (v : Vertex) (entry : Entry) (base : ℕ) → is_own old.local v.0 ≡ true → HasMadeHere p old new v entry → AreNumbersInOrder old base → AreNumbersInOrder new base
 made_numbers p old new v entry base own_v made n =
-    let o = made.outcome in
-    let c = o.work.vertex.0 in
+    let o = made.made in
+    let c = o.vertex.0 in
     let graph = same_graph old.local new.local made.graph in
     let mine : is_own old.local c ≡ true = ap (λ (u : Vertex). is_own old.local u.0) made.vertex ∙ own_v in
     let was : (u : ℕ) → is_own new.local u ≡ true → is_own old.local u ≡ true = λ u is. sym (made.graph.own u) ∙ is in
@@ -227,11 +227,11 @@ module _ (p : Update) (m : Core) (new : Numbers) (v : Vertex) (ticket : ℕ) (ow
   pub made_part : (st : Setting) → IsPartOf st m → st.program ≡ p → part_of after ≡ at_once st m.numbers.local.me.0 v.0 (entry_at_once m.numbers.local.me.0 v.0 ticket) (part_of m)
   made_part st is program =
       let a = m.numbers.local.me.0 in
-      let o = made.outcome in
+      let o = made.made in
       let s = next_scope a (part_of m) in
-      let law : with_numbers new (updated st a s o.work.vertex.0 entry (part_of m)) ≡ updated st a s o.work.vertex.0 entry (part_of m) =
+      let law : with_numbers new (updated st a s o.vertex.0 entry (part_of m)) ≡ updated st a s o.vertex.0 entry (part_of m) =
       updated_is st s o entry m.numbers new (part_of m) (made.is st is.local program) made.updated in
-      let here : part_of after ≡ at_once st a o.work.vertex.0 entry (part_of m) = λ i.
+      let here : part_of after ≡ at_once st a o.vertex.0 entry (part_of m) = λ i.
       record (part_of m) {
         datum = (law i).datum;
         edge = (law i).edge;

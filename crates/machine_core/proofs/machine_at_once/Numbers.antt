@@ -14,9 +14,9 @@ use Rattle.update_api.specs.Updates.{Update}
 use Rattle.update_api.specs.declared.links.Link.{Link}
 use Rattle.task_sets.specs.task_sched.Tasks.{TasksView, is_flagged}
 use Rattle.partition.specs.declared.machine_numbers.keeping.Numbers.{Numbers}
-use Rattle.partition.specs.machine_numbers.Steps.{CanFinish, HasRun, HasTakenOut, HasUpdated}
+use Rattle.partition.specs.machine_numbers.Steps.{CanFinish, HasRun, HasTakenOut, HasUpdated, made_of}
 use Rattle.partition.specs.machine_numbers.Settings.{IsMadeOfWork, IsOutcomeOf, IsLocalOf, Setting}
-use Rattle.partition.specs.machine_numbers.Views.{AreTasksOf, LocalView, datum_here, edge_here, flag_there, value_here, is_own, links_at, numbers_along, place_at, row_at, sides_at}
+use Rattle.partition.specs.machine_numbers.Views.{AreTasksOf, LocalView, datum_here, edge_here, flag_there, value_here, is_own, links_at, place_at, row_at, sides_at}
 use Rattle.partition.proofs.machine_numbers.WorkLemmas.{outcome_is}
 use Rattle.machine_core.proofs.machine_scopes.PickLemmas.{free_parts}
 use Rattle.machine_core.specs.machine_at_once.Picks.{HasRunAtOnce, IsRowIn}
@@ -99,9 +99,9 @@ module _ (n : Numbers) (t : TasksView) (o : Outcome) (place : Vertex) (can : Can
   pub tasks_of : AreTasksOf n.local t
   tasks_of = subst (λ (k : TasksView). AreTasksOf n.local k) (sym is) (record { apart = can.can.tasks.apart; own = can.can.tasks.own })
 
-  pub updated_kept : (new : Numbers) (entry : Entry) → HasUpdated (record n { tasks = t }) new o entry → HasUpdated n new o entry
+  pub updated_kept : (new : Numbers) (entry : Entry) → HasUpdated (record n { tasks = t }) new (made_of o) entry → HasUpdated n new (made_of o) entry
   updated_kept new entry has =
-      let now = subst (λ (k : TasksView). HasUpdated (record n { tasks = k }) new o entry) is has in
+      let now = subst (λ (k : TasksView). HasUpdated (record n { tasks = k }) new (made_of o) entry) is has in
       record { datum = now.datum; edge = now.edge; task = now.task; log = now.log }
 
   pub run_kept : (new : Numbers) → AreTasksOf new.local new.tasks → length new.tasks.task ≡ length t.task
@@ -147,17 +147,17 @@ module _ (n roomy out new : Numbers) (scope : ScopeId) (v : Vertex) (work : Work
       }
 
   module _ (p : Update) (o : Outcome) (entry : Entry) (same : o.work ≡ work) (made : IsMadeOfWork p o) (own_v : is_own n.local v.0 ≡ true) where
-    pub is_outcome : (st : Setting) → IsLocalOf st n.local → st.program ≡ p → IsOutcomeOf st n o
+    pub is_outcome : (st : Setting) → IsLocalOf st n.local → st.program ≡ p → IsOutcomeOf st n (made_of o)
     is_outcome st local program =
         let there : IsLocalOf st roomy.local = subst (λ (k : Numbers). IsLocalOf st k.local) (sym roomy_is) local in
         let own : is_own roomy.local v.0 ≡ true = ap (λ (k : Numbers). is_own k.local v.0) roomy_is ∙ own_v in
-        let is : IsOutcomeOf st roomy o = outcome_is st roomy out scope v o there own (subst (λ (w : Work). HasTakenOut roomy out scope v w) (sym same) taken) (subst (λ (q : Update). IsMadeOfWork q o) (sym program) made) in
-        let now : IsOutcomeOf st (record n { log = roomy.log }) o = subst (λ (k : Numbers). IsOutcomeOf st k o) roomy_is is in
+        let is : IsOutcomeOf st roomy (made_of o) = outcome_is st roomy out scope v o there own (subst (λ (w : Work). HasTakenOut roomy out scope v w) (sym same) taken) (subst (λ (q : Update). IsMadeOfWork q o) (sym program) made) in
+        let now : IsOutcomeOf st (record n { log = roomy.log }) (made_of o) = subst (λ (k : Numbers). IsOutcomeOf st k (made_of o)) roomy_is is in
         record { row = now.row; owners = now.owners; numbers = now.numbers; value = now.value; marks = now.marks; woken = now.woken }
 
-    pub updated_from : HasUpdated out new o entry → HasUpdated n new o entry
+    pub updated_from : HasUpdated out new (made_of o) entry → HasUpdated n new (made_of o) entry
     updated_from has =
-        let now = subst (λ (k : Numbers). HasUpdated k new o entry) out_is has in
+        let now = subst (λ (k : Numbers). HasUpdated k new (made_of o) entry) out_is has in
         record { datum = now.datum; edge = now.edge; task = now.task; log = now.log ∙ ap (λ (es : List Entry). es ++ entry ∷ []) items }
 
     run_from : HasRunOne out new → HasRunOne n new
@@ -165,7 +165,7 @@ module _ (n roomy out new : Numbers) (scope : ScopeId) (v : Vertex) (work : Work
         let now = subst (λ (k : Numbers). HasRunOne k new) out_is has in
         record { tasks = now.tasks; many = now.many; once = record { plans = now.once.plans; planned = now.once.planned; rest = now.once.rest } }
 
-    pub made_here : HasUpdated out new o entry
+    pub made_here : HasUpdated out new (made_of o) entry
         → ((x : ℕ) → is_own new.local x ≡ is_own out.local x)
         → ((x : ℕ) → links_at new.local x ≡ (if x == o.work.vertex.0 then Some o.work.row.links.items else links_at out.local x))
         → length new.local.numbers ≡ length out.local.numbers
@@ -173,7 +173,7 @@ module _ (n roomy out new : Numbers) (scope : ScopeId) (v : Vertex) (work : Work
         → new.ghosts ≡ out.ghosts → HasRunOne out new → HasMadeHere p n new v entry
     made_here updated own back many rest ghosts run =
         record {
-          outcome = o;
+          made = made_of o;
           vertex = ap (λ (w : Work). w.vertex) same ∙ taken.vertex;
           updated = updated_from updated;
           is = is_outcome;
@@ -181,21 +181,6 @@ module _ (n roomy out new : Numbers) (scope : ScopeId) (v : Vertex) (work : Work
           ghosts = ghosts ∙ ap (λ (k : Numbers). k.ghosts) out_is;
           run = run_from run;
         }
-
-  -- no update was made, and the work was put back
-  pub same_numbers : ((x : ℕ) → links_at new.local x ≡ (if x == work.vertex.0 then Some work.row.links.items else links_at out.local x))
-      → ((e : ℕ) → edge_here new e ≡ edge_here out e) → length new.local.numbers ≡ length out.local.numbers
-      → new ≡ record out { local = record out.local { rows = new.local.rows; numbers = new.local.numbers } } → HasSameNumbers n new
-  same_numbers back edge many rest =
-      let own : (x : ℕ) → is_own new.local x ≡ is_own out.local x = λ x. ap (λ (k : Numbers). is_own k.local x) rest in
-      let local : new.local ≡ record out.local { kept = new.local.kept; rows = new.local.rows; numbers = new.local.numbers } = λ i. record (rest i).local { kept = new.local.kept; rows = new.local.rows; numbers = new.local.numbers } in
-      let log : new.log ≡ roomy.log = ap (λ (k : Numbers). k.log) rest ∙ ap (λ (k : Numbers). k.log) out_is in
-      record {
-        edge = λ e. edge e ∙ ap (λ (k : Numbers). edge_here k e) out_is;
-        graph = graph_kept own back many local;
-        log = ap (λ l. l.items) log ∙ items;
-        rest = rest ∙ ap (λ (k : Numbers). record k { local = record k.local { rows = new.local.rows; numbers = new.local.numbers } }) out_is ∙ ap (λ l. record n { local = record n.local { rows = new.local.rows; numbers = new.local.numbers }; log = l }) (sym log);
-      }
 
 -- ---- what the calls on the way ask
 
@@ -267,20 +252,3 @@ can_room n roomy v is items can = subst (λ (k : Numbers). CanBeMade k v) (sym i
       tasks = can.tasks;
       outside = subst (λ (es : List Entry). n.tasks.outside ≤ length es) (sym items) can.outside;
     })
-
--- a work that goes back as it came
-module _ (roomy out : Numbers) (scope : ScopeId) (v : Vertex) (work : Work) (taken : HasTakenOut roomy out scope v work) (w : Work) (same : w ≡ work) where
-  pub back_own : is_own roomy.local v.0 ≡ true → is_own out.local w.vertex.0 ≡ true
-  back_own own = ap (λ (k : Numbers). is_own k.local w.vertex.0) taken.rest ∙ ap (λ (u : Vertex). is_own roomy.local u.0) (ap (λ (x : Work). x.vertex) same ∙ taken.vertex) ∙ own
-
-  pub back_links : w.row.links.items ≡ row_at out.local w.vertex.0
-  back_links =
-      ap (λ (x : Work). x.row.links.items) same ∙ taken.row
-      ∙ ap (λ (u : Vertex). row_at roomy.local u.0) (sym (ap (λ (x : Work). x.vertex) same ∙ taken.vertex))
-      ∙ ap (λ (k : Numbers). row_at k.local w.vertex.0) (sym taken.rest)
-
-  pub back_numbers : w.row.numbers.items ≡ numbers_along (edge_here out) (sides_at out.local w.vertex.0)
-  back_numbers =
-      ap (λ (x : Work). x.row.numbers.items) same ∙ taken.numbers
-      ∙ ap (λ (u : Vertex). numbers_along (edge_here roomy) (sides_at roomy.local u.0)) (sym (ap (λ (x : Work). x.vertex) same ∙ taken.vertex))
-      ∙ ap (λ (k : Numbers). numbers_along (edge_here k) (sides_at k.local w.vertex.0)) (sym taken.rest)

@@ -7,7 +7,7 @@ use Rattle.local_graph.specs.declared.works.Outcome.{Outcome}
 use Rattle.local_graph.specs.declared.works.Work.{Work}
 use Rattle.partition.specs.declared.machine_numbers.keeping.Numbers.{Numbers}
 use Rattle.partition.specs.machine_numbers.Settings.{IsMadeOfWork}
-use Rattle.partition.specs.machine_numbers.Steps.{HasUpdated, renewed}
+use Rattle.partition.specs.machine_numbers.Steps.{HasUpdated, made_of, renewed}
 use Rattle.partition.specs.machine_numbers.Views.{datum_here}
 use Rattle.update_api.specs.Links.{nears_at}
 use Rattle.update_api.specs.Marks.{AreMarked}
@@ -44,7 +44,7 @@ renewed_mark d x = by (x == d.value)
     by false = refl
 
 -- an update leaves each mark as it is
-pub marks_kept : (old new : Numbers) (o : Outcome) (entry : Entry) → HasUpdated old new o entry → (x : ℕ) → (datum_here new x).mark ≡ (datum_here old x).mark
+pub marks_kept : (old new : Numbers) (o : Outcome) (entry : Entry) → HasUpdated old new (made_of o) entry → (x : ℕ) → (datum_here new x).mark ≡ (datum_here old x).mark
 marks_kept old new o entry has x =
     let v = o.work.vertex.0 in
     let is : Datum → Type 0 = λ d. d.mark ≡ (datum_here old x).mark in

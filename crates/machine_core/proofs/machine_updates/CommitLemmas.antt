@@ -19,7 +19,7 @@ use Rattle.partition.proofs.local_parts.SharedLemmas.{edges_shared}
 use Rattle.wire.specs.wire_msgs.Views as told
 use Rattle.wire.specs.outboxes.Outboxes.{OutboxesView}
 use Rattle.partition.specs.machine_numbers.Views.{TasksView, AreTasksOf, numbers_along, near_along, value_here}
-use Rattle.partition.specs.machine_numbers.Steps.{HasUpdated, HasRun}
+use Rattle.partition.specs.machine_numbers.Steps.{HasUpdated, HasRun, made_of}
 use Rattle.partition.specs.declared.machine_numbers.keeping.Numbers.{Numbers}
 use Rattle.partition.specs.machine_numbers.Settings.{with_numbers, IsOutcomeOf, IsMadeOfWork, IsRowOf, lent_along}
 use Rattle.partition.proofs.machine_numbers.JoinLemmas.{updated_is, news_are}
@@ -40,7 +40,7 @@ use Rattle.machine_core.proofs.machine_updates.GraphLemmas.{SameGraph, place_kep
 pub record HasDone (old new : Core) (o : Outcome) (ps : List Prepared) (ticket : ℕ) : Type 0 where
   pub terms : new.terms ≡ old.terms
   pub by_place : new.by_place ≡ old.by_place
-  pub updated : HasUpdated old.numbers new.numbers o (entry_logged o ticket)
+  pub updated : HasUpdated old.numbers new.numbers (made_of o) (entry_logged o ticket)
   pub back : (x : ℕ) → links_at new.numbers.local x ≡ (if x == o.work.vertex.0 then Some o.work.row.links.items else links_at old.numbers.local x)
   pub graph : SameGraph old.numbers.local new.numbers.local
   pub ghosts : new.numbers.ghosts ≡ old.numbers.ghosts
@@ -58,7 +58,7 @@ pub record HasDone (old new : Core) (o : Outcome) (ps : List Prepared) (ticket :
 
 module _ (st : Setting) (n : Numbers) (o : Outcome) (local : IsLocalOf st n.local) (own : is_own n.local o.work.vertex.0 ≡ true) where
   pub outcome_is : o.work.value ≡ value_here n o.work.vertex.0 → o.work.row.numbers.items ≡ numbers_along (edge_here n) (sides_at n.local o.work.vertex.0)
-      → o.work.near.items ≡ near_along (value_here n) (sides_at n.local o.work.vertex.0) → IsRowOf st o.work.vertex.0 (sides_at n.local o.work.vertex.0) o.work.row.links.items → IsMadeOfWork st.program o → IsOutcomeOf st n o
+      → o.work.near.items ≡ near_along (value_here n) (sides_at n.local o.work.vertex.0) → IsRowOf st o.work.vertex.0 (sides_at n.local o.work.vertex.0) o.work.row.links.items → IsMadeOfWork st.program o → IsOutcomeOf st n (made_of o)
   outcome_is value edges near row made =
       let x = o.work.vertex.0 in
       let links = o.work.row.links.items in
@@ -78,7 +78,7 @@ module _ (st : Setting) (n : Numbers) (o : Outcome) (local : IsLocalOf st n.loca
 
 -- ---- what waits for each machine once the others of the scope were told
 
-module _ (st : Setting) (n : Numbers) (part : Part) (out : OutboxesView) (o : Outcome) (ps : List Prepared) (setting : IsSetting st) (is : IsOutcomeOf st n o) where
+module _ (st : Setting) (n : Numbers) (part : Part) (out : OutboxesView) (o : Outcome) (ps : List Prepared) (setting : IsSetting st) (is : IsOutcomeOf st n (made_of o)) where
   word_is : (q : ℕ) → HasWord n o q → message_of (told.Done (done_told n o (record { 0 = q }))) ≡ law.Done o.work.scope (news_for st (with_numbers n part) o.work.vertex.0 q)
   word_is q word =
       let same = done_is n (record { 0 = q }) o word.done word.tells in
@@ -135,7 +135,7 @@ module _ (old new : Core) (o : Outcome) (ps : List Prepared) (ticket : ℕ) (ord
   own : is_own old.numbers.local o.work.vertex.0 ≡ true
   own = order.flights.own o.work.scope o.work.vertex out.flight
 
-  out_is : (st : Setting) (q : ℕ) → IsSetting st → IsPartOf st old → IsOutcomeOf st old.numbers o → messages_for new.out q
+  out_is : (st : Setting) (q : ℕ) → IsSetting st → IsPartOf st old → IsOutcomeOf st old.numbers (made_of o) → messages_for new.out q
       ≡ tell st old.numbers.local.me.0 o.work.vertex.0 o.work.scope (λ p. news_for st (part_of old) o.work.vertex.0 p) (messages_for old.out) q
   out_is st q setting part is =
       ap (λ (boxes : OutboxesView). messages_for boxes q) done.out
@@ -168,4 +168,4 @@ module _ (old new : Core) (o : Outcome) (ps : List Prepared) (ticket : ℕ) (ord
         sent = (done.terms i).base;
         out = λ q. out_is st q setting part is i;
       } in
-      rest ∙ updated_is st s o (entry_logged o ticket) old.numbers new.numbers (part_of old) is done.updated
+      rest ∙ updated_is st s (made_of o) (entry_logged o ticket) old.numbers new.numbers (part_of old) is done.updated

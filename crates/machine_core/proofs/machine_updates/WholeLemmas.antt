@@ -10,14 +10,14 @@ use Rattle.local_graph.specs.declared.works.Outcome.{Outcome}
 use Rattle.local_graph.specs.Locals.{LocalView, got_at, is_own, place_at, set_where, written}
 use Rattle.partition.specs.declared.machine_numbers.keeping.Numbers.{Numbers}
 use Rattle.partition.specs.machine_numbers.Views.{edge_here, sides_at}
-use Rattle.partition.specs.machine_numbers.Steps.{HasRun, HasUpdated, HasWritten}
+use Rattle.partition.specs.machine_numbers.Steps.{HasRun, HasUpdated, HasWritten, made_of}
 use Rattle.machine_core.specs.declared.machine_parts.cores.Core.{Core}
 use Rattle.machine_core.specs.machine_parts.Parts.{part_at}
 use Rattle.machine_core.specs.declared.machine_updates.reserving.Prepared.{Prepared}
 use Rattle.machine_core.specs.machine_updates.Committing.{local_left, task_set_left, machine_left, with_log_of, after_told, done_told, released_all}
 
 -- all numbers of edges are told by their look-ups
-numbers_are : (old new : Numbers) (o : Outcome) (entry : Entry) → length new.local.numbers ≡ length old.local.numbers → HasUpdated old new o entry
+numbers_are : (old new : Numbers) (o : Outcome) (entry : Entry) → length new.local.numbers ≡ length old.local.numbers → HasUpdated old new (made_of o) entry
     → new.local.numbers ≡ map (written (sides_at old.local o.work.vertex.0) o.edges.items (edge_here old)) (range_with_len 0 (length old.local.numbers))
 numbers_are old new o entry many is =
     let f = written (sides_at old.local o.work.vertex.0) o.edges.items (edge_here old) in
@@ -28,7 +28,7 @@ numbers_are old new o entry many is =
     let low : k < n = omega arith in
     get_or_default new.local.numbers k d 0 inside ∙ (is.edge k ∙ sym (get_or-map-range_with_len f 0 n k k d low (omega arith))))
 
-local_is : (old new : Numbers) (o : Outcome) (entry : Entry) → length new.local.numbers ≡ length old.local.numbers → HasUpdated old new o entry → HasWritten old new o
+local_is : (old new : Numbers) (o : Outcome) (entry : Entry) → length new.local.numbers ≡ length old.local.numbers → HasUpdated old new (made_of o) entry → HasWritten old new o
     → new.local ≡ record old.local { kept = new.local.kept; rows = new.local.rows; numbers = new.local.numbers } → new.local ≡ local_left old o
 local_is old new o entry many is wrote rest =
     let numbers = numbers_are old new o entry many is in
@@ -48,7 +48,7 @@ tasks_are old new o k at run wrote =
 
 pub whole_is : (old new : Core) (o : Outcome) (ps : List Prepared) (entry : Entry) → is_own old.numbers.local o.work.vertex.0 ≡ true
     → new ≡ record old { numbers = new.numbers; pipe = new.pipe; locks = new.locks; out = new.out }
-    → length new.numbers.local.numbers ≡ length old.numbers.local.numbers → HasUpdated old.numbers new.numbers o entry → HasWritten old.numbers new.numbers o
+    → length new.numbers.local.numbers ≡ length old.numbers.local.numbers → HasUpdated old.numbers new.numbers (made_of o) entry → HasWritten old.numbers new.numbers o
     → new.numbers.local ≡ record old.numbers.local { kept = new.numbers.local.kept; rows = new.numbers.local.rows; numbers = new.numbers.local.numbers } → new.numbers.ghosts ≡ old.numbers.ghosts
     → ((k : ℕ) → place_at old.numbers.local o.work.vertex.0 ≡ Some k → HasRun old.numbers.tasks new.numbers.tasks k)
     → new.pipe ≡ record old.pipe { waiting = without_flight o.work.scope old.pipe.waiting; ready = without_flight o.work.scope old.pipe.ready }

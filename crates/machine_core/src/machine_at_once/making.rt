@@ -3,15 +3,15 @@ ghost use Rattle.std.specs.Prelude.{◌≡◌, ℕ, ◌==◌, Some, length, if�
 ghost use Rattle.gl_base.specs.declared.entries.Entry.TheVariants.{Go};
 ghost use Rattle.machine_core.specs.machine_at_once.Picks.{IsRowIn, is_own, links_at};
 ghost use Rattle.machine_core.specs.machine_at_once.Inner.Finding.{WaitsAt};
-ghost use Rattle.machine_core.specs.machine_at_once.Inner.Making.{CanBeKept, CanBeMade, HasMadeHere, HasRunOne, HasSameNumbers, HasUpdated, sides_at};
+ghost use Rattle.machine_core.specs.machine_at_once.Inner.Making.{CanBeKept, CanBeMade, HasMadeHere, HasRunOne, HasSameNumbers, HasUpdated, made_of, run_of, sides_at};
 
 use crate::machine_at_once::finding::Found;
 use crate::machine_updates::{Spares, reserve_log};
 use gl_base::{Entry, NoMemory, ScopeId, Vertex};
-use local_graph::Outcome;
-use partition::machine_numbers::{Numbers, Spent};
+use local_graph::Work;
+use partition::machine_numbers::{Numbers, ScratchBuffers};
 use std::alloc::Global;
-use update_api::Program;
+use update_api::{Program, Woken};
 
 /// What an update is known by: the name of its scope, and its ticket.
 #[derive(Clone, Copy)]
@@ -42,28 +42,26 @@ pub fn make<P: Program>(
     reserve_log(&mut numbers.log, version)?;
     let degree = numbers.local.sides(found.vertex).len();
     let spare = spares.fitted(alloc, degree)?;
-    let work = numbers.take_work(stamp.scope, found.vertex, spare);
-    match Outcome::in_list(spares.for_outcome(alloc), work) {
-        Ok(mut outcome) => {
-            outcome.update(program);
-            spares.keep_all(keep(numbers, outcome, found.place, stamp.ticket));
-            Ok(())
-        }
-        Err(work) => {
-            spares.keep(numbers.put_back(work));
-            Err(NoMemory)
-        }
-    }
+    let mut work = numbers.take_work(stamp.scope, found.vertex, spare);
+    let woken = work.update(program);
+    spares.keep(keep(numbers, work, woken, found.place, stamp.ticket));
+    Ok(())
 }
 
 /// Keeps an update that was made, of the task at this place, under this ticket. It takes no memory.
-fn keep(numbers: &mut Numbers, outcome: Outcome, place: Vertex, ticket: u64) -> Spent
-    requires { CanBeKept numbers.old outcome place }
-    ensures updated { HasUpdated numbers.old numbers.new outcome
-        (Go numbers.old.local.me outcome.work.vertex ticket) }
+fn keep(
+    numbers: &mut Numbers,
+    work: Work,
+    woken: Woken,
+    place: Vertex,
+    ticket: u64,
+) -> ScratchBuffers
+    requires { CanBeKept numbers.old (run_of work woken) place }
+    ensures updated { HasUpdated numbers.old numbers.new (made_of (run_of work woken))
+        (Go numbers.old.local.me work.vertex ticket) }
     ensures back { (x : ℕ) →
         links_at numbers.new.local x ≡
-        (if x == outcome.work.vertex.0 then Some outcome.work.row.links.items
+        (if x == work.vertex.0 then Some work.row.links.items
         else links_at numbers.old.local x) }
     ensures own { (x : ℕ) → is_own numbers.new.local x ≡ is_own numbers.old.local x }
     ensures edges { length numbers.new.local.numbers ≡ length numbers.old.local.numbers }
@@ -78,8 +76,8 @@ fn keep(numbers: &mut Numbers, outcome: Outcome, place: Vertex, ticket: u64) -> 
     let entry = Entry::Go {
         ticket,
         machine: numbers.local.me(),
-        vertex: outcome.work.vertex,
+        vertex: work.vertex,
     };
     numbers.tasks.admit_task(place);
-    numbers.finish(outcome, entry)
+    numbers.finish_work(work, woken, entry)
 }

@@ -2,7 +2,7 @@
 ghost use Rattle.std.specs.Prelude.{◌≡◌, ℕ, ◌==◌, Some, length, if◌then◌else◌};
 ghost use Rattle.local_graph.specs.declared.works.Work.{Work};
 ghost use Rattle.scope_locks.specs.scope_pipe.Pipes.{HasFinished};
-ghost use Rattle.partition.specs.machine_numbers.Steps.{HasRun, HasUpdated};
+ghost use Rattle.partition.specs.machine_numbers.Steps.{HasRun, HasUpdated, made_of};
 ghost use Rattle.machine_core.specs.machine_parts.Parts.{place_at, is_own, links_at, sides_at};
 ghost use Rattle.machine_core.specs.machine_parts.Order.{IsOrderly, KnowsPlaces};
 ghost use Rattle.machine_core.specs.machine_parts.Settings.{Setting, IsPartOf};
@@ -29,7 +29,7 @@ pub fn commit(core: &mut Core, outcome: Outcome, prepared: Vec<Prepared>, ticket
     requires reserved { IsReserved core.old outcome.work.scope outcome.work.vertex prepared.items }
     ensures committed { HasCommitted core.old core.new outcome ticket }
     ensures whole { core.new ≡ with_log_of core.new (machine_left core.old outcome prepared.items) }
-    ensures numbers { HasUpdated core.old.numbers core.new.numbers outcome
+    ensures numbers { HasUpdated core.old.numbers core.new.numbers (made_of outcome)
         (entry_logged outcome ticket) }
     ensures finished { HasFinished core.old.pipe core.new.pipe outcome.work.scope }
     ensures released { HasNoLock core.old.locks core.new.locks outcome.work.scope }

@@ -20,14 +20,14 @@ use Rattle.wire.specs.declared.wire_msgs.messages.Done.{Done}
 use Rattle.partition.specs.local_parts.Parts.{half_along, halves_along, AreOfTwoEdges, is_shared_by}
 use Rattle.partition.specs.declared.machine_numbers.keeping.Numbers.{Numbers}
 use Rattle.partition.specs.machine_numbers.Views.{news_of, is_in_update, number_told, sides_at, numbers_along, datum_here, task_here, edge_here}
-use Rattle.partition.specs.machine_numbers.Steps.{HasUpdated, TellsOf, told_edges, told_wakes, told_datum, wakes_of, wakes_there, set_at, renewed}
+use Rattle.partition.specs.machine_numbers.Steps.{HasUpdated, MadeUpdate, TellsOf, made_of, told_edges, told_wakes, told_datum, wakes_of, wakes_there, set_at, renewed}
 use Rattle.partition.specs.machine_numbers.Settings.{Setting, Part, updated, news_for, with_numbers, IsOutcomeOf, EdgesShared}
 use Rattle.partition.proofs.machine_numbers.RowLemmas.{stands_at, value_made, edges_are, edges_made, wakes_made}
 
-pub updated_is : (st : Setting) (s : ScopeId) (o : Outcome) (entry : Entry) (old new : Numbers) (part : Part) → IsOutcomeOf st old o → HasUpdated old new o entry
-    → with_numbers new (updated st old.local.me.0 s o.work.vertex.0 entry (with_numbers old part)) ≡ updated st old.local.me.0 s o.work.vertex.0 entry (with_numbers old part)
+pub updated_is : (st : Setting) (s : ScopeId) (o : MadeUpdate) (entry : Entry) (old new : Numbers) (part : Part) → IsOutcomeOf st old o → HasUpdated old new o entry
+    → with_numbers new (updated st old.local.me.0 s o.vertex.0 entry (with_numbers old part)) ≡ updated st old.local.me.0 s o.vertex.0 entry (with_numbers old part)
 updated_is st s o entry old new part is has =
-    let v = o.work.vertex.0 in
+    let v = o.vertex.0 in
     let value = value_made st old o is in
     λ i.
     record (updated st old.local.me.0 s v entry (with_numbers old part)) {
@@ -109,20 +109,20 @@ named_is to woken (s ∷ sides) (link ∷ links) u =
     one true rest s u = refl
     one false rest s u = refl
 
-pub news_are : (st : Setting) (to : MachineNo) (o : Outcome) (done : Done) (n : Numbers) (part : Part) → IsOutcomeOf st n o → EdgesShared st o.work.vertex.0 → TellsOf n to o done
+pub news_are : (st : Setting) (to : MachineNo) (o : Outcome) (done : Done) (n : Numbers) (part : Part) → IsOutcomeOf st n (made_of o) → EdgesShared st o.work.vertex.0 → TellsOf n to o done
     → news_of done ≡ news_for st (with_numbers n part) o.work.vertex.0 to.0
 news_are st to o done n part is share tells =
     let v = o.work.vertex.0 in
     let sides = sides_at n.local v in
     let links = o.work.row.links.items in
     let s = stands_at n in
-    let value = value_made st n o is in
+    let value = value_made st n (made_of o) is in
     let shared = subst (λ (hs : List DataHalf). AllByRecursion (λ (h : DataHalf). is_shared_by st v to.0 h.edge ≡ (st.owner h.other == to.0)) hs) (sym is.row.halves) (share.shared to.0) in
     let apart = subst AreOfTwoEdges (sym is.row.halves) share.apart in
     let edges : (e : ℕ) → number_told done.edges.items e ≡ told_edge (is_shared_by st v to.0 e) (edge_here n e) ((after_update st.graph st.program s v).edge e) = λ e.
     ap (λ (es : List (EdgeNo × ℕ)). number_told es e) tells.edges
     ∙ ap (λ (xs : List ℕ). number_told (told_edges to.0 sides xs o.edges.items) e) is.numbers
-    ∙ ap (λ (ys : List ℕ). number_told (told_edges to.0 sides (numbers_along (edge_here n) sides) ys) e) (edges_are st n o is)
+    ∙ ap (λ (ys : List ℕ). number_told (told_edges to.0 sides (numbers_along (edge_here n) sides) ys) e) (edges_are st n (made_of o) is)
     ∙ told_is st v to.0 st.program s o.value sides links e is.row.row.many is.owners shared apart
     ∙ ap (λ (hs : List DataHalf). told_edge (is_shared_by st v to.0 e) (edge_here n e) (with_marks st.program s o.value hs e)) is.row.halves
     ∙ ap (λ (k : ℕ). told_edge (is_shared_by st v to.0 e) (edge_here n e) (with_marks st.program s k (halves_of st.graph v) e)) value in
@@ -131,7 +131,7 @@ news_are st to o done n part is share tells =
       centre = (tells.centre i).0;
       datum = (tells.datum ∙ ap (told_datum (datum_here n v)) value) i;
       edges = λ e. edges e i;
-      wakes = λ u. (ap (λ (ws : List Vertex). is_in_update ws u) tells.wakes ∙ named_is to.0 o.woken sides links u ∙ wakes_made st n o is to.0 u) i;
+      wakes = λ u. (ap (λ (ws : List Vertex). is_in_update ws u) tells.wakes ∙ named_is to.0 o.woken sides links u ∙ wakes_made st n (made_of o) is to.0 u) i;
       pends = λ u. is_in_update (tells.pends i) u;
       number = tells.number i;
     }

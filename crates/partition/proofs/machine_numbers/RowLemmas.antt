@@ -12,12 +12,12 @@ use Rattle.update_api.specs.declared.links.Link.{Link}
 use Rattle.update_api.specs.declared.woken.Woken.{Woken}
 use Rattle.update_api.specs.declared.woken.Woken.TheVariants.{Nobody, Ahead, Around}
 use Rattle.local_graph.specs.declared.sides.Side.{Side}
-use Rattle.local_graph.specs.declared.works.Outcome.{Outcome}
 use Rattle.local_graph.specs.Works.{IsRow}
 use Rattle.partition.specs.local_parts.Parts.{half_along, halves_along}
 use Rattle.partition.specs.declared.machine_numbers.keeping.Numbers.{Numbers}
 use Rattle.partition.specs.machine_numbers.Views.{sides_at, numbers_along, near_along, written, value_here, edge_here}
 use Rattle.partition.specs.machine_numbers.Steps.{wakes_of, wakes_there}
+use Rattle.partition.specs.machine_numbers.Steps.{MadeUpdate}
 use Rattle.partition.specs.machine_numbers.Settings.{Setting, IsOutcomeOf, lent_along}
 
 -- the numbers as they stand at a machine
@@ -168,32 +168,32 @@ wakes_by owner to Around (s ∷ sides) (link ∷ links) u all =
     ap (λ b. (wakes_there to Around s link && s.other.0 == u) || b) (wakes_by owner to Around sides links u (All-tail P s sides all))
     ∙ woken_step owner to u s true (is_woken Around (halves_along sides links) u) (All-head P s sides all)
 
--- ---- for a setting of which the outcome is the update
+-- ---- for a setting whose program made the update
 
-module _ (st : Setting) (n : Numbers) (o : Outcome) (is : IsOutcomeOf st n o) where
-  pub value_made : o.value ≡ new_number st.graph st.program (stands_at n) o.work.vertex.0
+module _ (st : Setting) (n : Numbers) (o : MadeUpdate) (is : IsOutcomeOf st n o) where
+  pub value_made : o.value ≡ new_number st.graph st.program (stands_at n) o.vertex.0
   value_made =
       is.value
-      ∙ ap (λ (xs : List ℕ). st.program.number (value_here n o.work.vertex.0) (nears_at (lent_along n o.work.vertex.0) xs o.work.row.links.items)) is.numbers
-      ∙ ap (st.program.number (value_here n o.work.vertex.0)) (nears_joined (stands_at n) (sides_at n.local o.work.vertex.0) o.work.row.links.items (value_here n o.work.vertex.0) is.row.row)
-      ∙ ap (λ (hs : List DataHalf). st.program.number (value_here n o.work.vertex.0) (map (near_of (stands_at n)) hs)) is.row.halves
+      ∙ ap (λ (xs : List ℕ). st.program.number (value_here n o.vertex.0) (nears_at (lent_along n o.vertex.0) xs o.links)) is.numbers
+      ∙ ap (st.program.number (value_here n o.vertex.0)) (nears_joined (stands_at n) (sides_at n.local o.vertex.0) o.links (value_here n o.vertex.0) is.row.row)
+      ∙ ap (λ (hs : List DataHalf). st.program.number (value_here n o.vertex.0) (map (near_of (stands_at n)) hs)) is.row.halves
 
-  marked : AreMarked (st.program.mark o.value) (lent_along n o.work.vertex.0) (numbers_along (edge_here n) (sides_at n.local o.work.vertex.0)) o.work.row.links.items o.edges.items
-  marked = subst (λ (xs : List ℕ). AreMarked (st.program.mark o.value) (lent_along n o.work.vertex.0) xs o.work.row.links.items o.edges.items) is.numbers is.marks
+  marked : AreMarked (st.program.mark o.value) (lent_along n o.vertex.0) (numbers_along (edge_here n) (sides_at n.local o.vertex.0)) o.links o.edges
+  marked = subst (λ (xs : List ℕ). AreMarked (st.program.mark o.value) (lent_along n o.vertex.0) xs o.links o.edges) is.numbers is.marks
 
-  pub edges_are : o.edges.items ≡ map (st.program.mark o.value) (map (near_of (stands_at n)) (halves_along (sides_at n.local o.work.vertex.0) o.work.row.links.items))
-  edges_are = marks_joined (st.program.mark o.value) (stands_at n) (sides_at n.local o.work.vertex.0) o.work.row.links.items (value_here n o.work.vertex.0) o.edges.items is.row.row marked
+  pub edges_are : o.edges ≡ map (st.program.mark o.value) (map (near_of (stands_at n)) (halves_along (sides_at n.local o.vertex.0) o.links))
+  edges_are = marks_joined (st.program.mark o.value) (stands_at n) (sides_at n.local o.vertex.0) o.links (value_here n o.vertex.0) o.edges is.row.row marked
 
-  pub edges_made : (e : ℕ) → written (sides_at n.local o.work.vertex.0) o.edges.items (edge_here n) e ≡ (after_update st.graph st.program (stands_at n) o.work.vertex.0).edge e
+  pub edges_made : (e : ℕ) → written (sides_at n.local o.vertex.0) o.edges (edge_here n) e ≡ (after_update st.graph st.program (stands_at n) o.vertex.0).edge e
   edges_made e =
-      ap (λ (xs : List ℕ). written (sides_at n.local o.work.vertex.0) xs (edge_here n) e) edges_are
-      ∙ written_is st.program (stands_at n) o.value (sides_at n.local o.work.vertex.0) o.work.row.links.items e
+      ap (λ (xs : List ℕ). written (sides_at n.local o.vertex.0) xs (edge_here n) e) edges_are
+      ∙ written_is st.program (stands_at n) o.value (sides_at n.local o.vertex.0) o.links e
       ∙ ap (λ (hs : List DataHalf). with_marks st.program (stands_at n) o.value hs e) is.row.halves
-      ∙ ap (λ (k : ℕ). with_marks st.program (stands_at n) k (halves_of st.graph o.work.vertex.0) e) value_made
+      ∙ ap (λ (k : ℕ). with_marks st.program (stands_at n) k (halves_of st.graph o.vertex.0) e) value_made
 
-  pub wakes_made : (to u : ℕ) → wakes_of to o.woken (sides_at n.local o.work.vertex.0) o.work.row.links.items u ≡ (st.owner u == to && wakes st.graph st.program (stands_at n) o.work.vertex.0 u)
+  pub wakes_made : (to u : ℕ) → wakes_of to o.woken (sides_at n.local o.vertex.0) o.links u ≡ (st.owner u == to && wakes st.graph st.program (stands_at n) o.vertex.0 u)
   wakes_made to u =
-      wakes_by st.owner to o.woken (sides_at n.local o.work.vertex.0) o.work.row.links.items u is.owners
+      wakes_by st.owner to o.woken (sides_at n.local o.vertex.0) o.links u is.owners
       ∙ ap (λ (hs : List DataHalf). st.owner u == to && is_woken o.woken hs u) is.row.halves
-      ∙ ap (λ (w : Woken). st.owner u == to && is_woken w (halves_of st.graph o.work.vertex.0) u) is.woken
-      ∙ ap (λ (k : ℕ). st.owner u == to && is_woken (st.program.woken (value_here n o.work.vertex.0) k) (halves_of st.graph o.work.vertex.0) u) value_made
+      ∙ ap (λ (w : Woken). st.owner u == to && is_woken w (halves_of st.graph o.vertex.0) u) is.woken
+      ∙ ap (λ (k : ℕ). st.owner u == to && is_woken (st.program.woken (value_here n o.vertex.0) k) (halves_of st.graph o.vertex.0) u) value_made

@@ -8,11 +8,11 @@ use Rattle.local_graph.specs.declared.sides.Side.{Side}
 use Rattle.local_graph.specs.declared.works.Outcome.{Outcome}
 use Rattle.partition.specs.declared.machine_numbers.keeping.Numbers.{Numbers}
 use Rattle.partition.specs.machine_numbers.Views.{is_own, sides_at, numbers_along, near_along, value_here, edge_here}
-use Rattle.partition.specs.machine_numbers.Steps.{HasTakenOut}
+use Rattle.partition.specs.machine_numbers.Steps.{HasTakenOut, made_of}
 use Rattle.partition.specs.machine_numbers.Settings.{Setting, IsLocalOf, IsRowOf, IsOutcomeOf, IsMadeOfWork, lent_along}
 
 pub outcome_is : (st : Setting) (old new : Numbers) (scope : ScopeId) (v : Vertex) (o : Outcome) → IsLocalOf st old.local → is_own old.local v.0 ≡ true
-    → HasTakenOut old new scope v o.work → IsMadeOfWork st.program o → IsOutcomeOf st old o
+    → HasTakenOut old new scope v o.work → IsMadeOfWork st.program o → IsOutcomeOf st old (made_of o)
 outcome_is st old new scope v o local own taken made =
     let links = o.work.row.links.items in
     let numbers = o.work.row.numbers.items in

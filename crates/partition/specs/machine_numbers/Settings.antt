@@ -10,6 +10,7 @@ use Rattle.update_api.specs.Links.{nears_at}
 use Rattle.update_api.specs.Marks.{AreMarked}
 use Rattle.update_api.specs.Updates.{Update}
 use Rattle.partition.specs.declared.machine_numbers.keeping.Numbers.{Numbers}
+use Rattle.partition.specs.machine_numbers.Steps.{MadeUpdate}
 use Rattle.partition.specs.machine_numbers.Views.{sides_at, numbers_along, datum_here, value_here, task_here, edge_here, near_along}
 
 -- the part with these numbers, tasks and log
@@ -20,15 +21,15 @@ with_numbers n part = record part { datum = datum_here n; edge = edge_here n; ta
 abbrev pub lent_along : Numbers → ℕ → List ℕ
 lent_along n v = near_along (value_here n) (sides_at n.local v) ++ value_here n v ∷ []
 
--- The outcome is what the setting's program makes of the numbers as they stand here, and the row that it had is that of its
--- vertex in the graph.
-pub record IsOutcomeOf (st : Setting) (n : Numbers) (o : Outcome) : Type 0 where
-  pub row : IsRowOf st o.work.vertex.0 (sides_at n.local o.work.vertex.0) o.work.row.links.items
-  pub owners : All (λ s. s.owner.0 ≡ st.owner s.other.0) (sides_at n.local o.work.vertex.0)
-  pub numbers : o.work.row.numbers.items ≡ numbers_along (edge_here n) (sides_at n.local o.work.vertex.0)
-  pub value : o.value ≡ st.program.number (value_here n o.work.vertex.0) (nears_at (lent_along n o.work.vertex.0) o.work.row.numbers.items o.work.row.links.items)
-  pub marks : AreMarked (st.program.mark o.value) (lent_along n o.work.vertex.0) o.work.row.numbers.items o.work.row.links.items o.edges.items
-  pub woken : o.woken ≡ st.program.woken (value_here n o.work.vertex.0) o.value
+-- The update is what the setting's program makes of the numbers as they stand here, and its links are those of its vertex in
+-- the graph.
+pub record IsOutcomeOf (st : Setting) (n : Numbers) (o : MadeUpdate) : Type 0 where
+  pub row : IsRowOf st o.vertex.0 (sides_at n.local o.vertex.0) o.links
+  pub owners : All (λ s. s.owner.0 ≡ st.owner s.other.0) (sides_at n.local o.vertex.0)
+  pub numbers : o.numbers ≡ numbers_along (edge_here n) (sides_at n.local o.vertex.0)
+  pub value : o.value ≡ st.program.number (value_here n o.vertex.0) (nears_at (lent_along n o.vertex.0) o.numbers o.links)
+  pub marks : AreMarked (st.program.mark o.value) (lent_along n o.vertex.0) o.numbers o.links o.edges
+  pub woken : o.woken ≡ st.program.woken (value_here n o.vertex.0) o.value
 
 -- each edge at v is shared with the owner of its other end alone
 abbrev pub EdgesShared : Setting → ℕ → Type 0

@@ -114,11 +114,35 @@ pub record HasWritten (old new : Numbers) (o : Outcome) : Type 0 where
   pub rows : new.local.rows ≡ set_where old.local.rows (place_at old.local o.work.vertex.0) (Some o.work.row.links.items)
   pub task : new.tasks.task ≡ woken_flags old.local.me.0 o.woken (sides_at old.local o.work.vertex.0) o.work.row.links.items (set_where old.tasks.task (place_at old.local o.work.vertex.0) false)
 
+-- an update that was made: the vertex, the links and the numbers of its edges, and what the program made of them
+pub record MadeUpdate : Type 0 where
+  pub vertex : Vertex
+  pub links : List Link
+  pub numbers : List ℕ
+  pub value : ℕ
+  pub edges : List ℕ
+  pub woken : Woken
+
+abbrev pub made_of : Outcome → MadeUpdate
+made_of o =
+    record {
+      vertex = o.work.vertex;
+      links = o.work.row.links.items;
+      numbers = o.work.row.numbers.items;
+      value = o.value;
+      edges = o.edges.items;
+      woken = o.woken;
+    }
+
+-- the outcome of an update that was made in its work's own lists
+abbrev pub run_of : Work → Woken → Outcome
+run_of work woken = record { work = work; value = work.value; edges = work.row.numbers; woken = woken }
+
 -- the update is kept
-pub record HasUpdated (old new : Numbers) (o : Outcome) (entry : Entry) : Type 0 where
-  pub datum : (x : ℕ) → datum_here new x ≡ set_at (datum_here old) o.work.vertex.0 (renewed (datum_here old o.work.vertex.0) o.value) x
-  pub edge : (e : ℕ) → edge_here new e ≡ written (sides_at old.local o.work.vertex.0) o.edges.items (edge_here old) e
-  pub task : (u : ℕ) → task_here new u ≡ (wakes_of old.local.me.0 o.woken (sides_at old.local o.work.vertex.0) o.work.row.links.items u || (task_here old u && not (u == o.work.vertex.0)))
+pub record HasUpdated (old new : Numbers) (o : MadeUpdate) (entry : Entry) : Type 0 where
+  pub datum : (x : ℕ) → datum_here new x ≡ set_at (datum_here old) o.vertex.0 (renewed (datum_here old o.vertex.0) o.value) x
+  pub edge : (e : ℕ) → edge_here new e ≡ written (sides_at old.local o.vertex.0) o.edges (edge_here old) e
+  pub task : (u : ℕ) → task_here new u ≡ (wakes_of old.local.me.0 o.woken (sides_at old.local o.vertex.0) o.links u || (task_here old u && not (u == o.vertex.0)))
   pub log : new.log.items ≡ old.log.items ++ entry ∷ []
 
 -- ---- what is told to another machine

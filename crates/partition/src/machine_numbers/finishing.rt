@@ -1,23 +1,73 @@
 //! Updates that were made, kept.
 ghost use Rattle.std.specs.Prelude.{◌≡◌, ℕ, ◌+◌, ◌<◌, ◌==◌, ◌&&◌, true, false, not, Some, is_some, length, if◌then◌else◌};
 ghost use Rattle.partition.specs.machine_numbers.Views.{AreTasksOf, HasEdge, is_own, own_datum, links_at, place_at, flag_there, datum_or};
-ghost use Rattle.partition.specs.machine_numbers.Steps.{CanFinish, HasUpdated, HasRun, HasWritten, renewed};
+ghost use Rattle.partition.specs.machine_numbers.Steps.{CanFinish, HasUpdated, HasRun, HasWritten, made_of, renewed, run_of};
 ghost use Rattle.local_graph.specs.Locals.{set_where};
 
 use crate::machine_numbers::waking::wake_along;
-use crate::machine_numbers::{Numbers, Spent};
+use crate::machine_numbers::{Numbers, ScratchBuffers, Spent};
 use gl_base::{Datum, Entry, Vertex};
 use local_graph::{LocalGraph, Outcome, Row, Work};
 use task_sets::task_sched::TaskSet;
+use update_api::Woken;
 
 impl Numbers {
-    /// Ends a work whose update was made: keeps the new numbers of the vertex and of its edges,
-    /// ends its task, makes those own vertices tasks that the update wakes, and logs the update. It
-    /// takes no memory, and hands back the lists of the work and of the outcome.
+    /// Ends a work whose update was made in its own lists: keeps the new numbers of the vertex and
+    /// of its edges, ends its task, makes those own vertices tasks that the update wakes, and logs
+    /// the update. It takes no memory, and hands back the lists of the work.
+    pub fn finish_work(&mut self, work: Work, woken: Woken, entry: Entry) -> ScratchBuffers
+        requires can { CanFinish self.old (run_of work woken) }
+        requires tasks { AreTasksOf self.old.local self.old.tasks }
+        ensures updated { HasUpdated self.old self.new (made_of (run_of work woken)) entry }
+        ensures written { HasWritten self.old self.new (run_of work woken) }
+        ensures back { (x : ℕ) →
+            links_at self.new.local x ≡
+            (if x == work.vertex.0 then Some work.row.links.items
+            else links_at self.old.local x) }
+        ensures local { self.new.local ≡ record self.old.local {
+          kept = self.new.local.kept;
+          rows = self.new.local.rows;
+          numbers = self.new.local.numbers;
+        } }
+        ensures ghosts { self.new.ghosts ≡ self.old.ghosts }
+        ensures own { (x : ℕ) → is_own self.new.local x ≡ is_own self.old.local x }
+        ensures edges { (e : ℕ) → HasEdge self.old.local e → HasEdge self.new.local e }
+        ensures many_edges { length self.new.local.numbers ≡ length self.old.local.numbers }
+        ensures run { (k : ℕ) → place_at self.old.local work.vertex.0 ≡ Some k →
+            HasRun self.old.tasks self.new.tasks k }
+        ensures tasks_kept { AreTasksOf self.new.local self.new.tasks }
+        ensures many_tasks { length self.new.tasks.task ≡ length self.old.tasks.task }
+        ensures spare { (result.edges ≡ work.row.numbers) ×
+            (result.near ≡ work.near) }
+        ensures links { result.links ≡ work.row.links }
+    {
+        let Work {
+            vertex,
+            value,
+            row,
+            near,
+            ..
+        } = work;
+        let Row { links, numbers } = row;
+        renew(&mut self.local, vertex, value);
+        end_task(&mut self.tasks, &self.local, vertex);
+        let sides = self.local.sides(vertex);
+        wake_along(&mut self.tasks, &self.local, sides, &links, woken, value);
+        self.local.put_row(vertex, &numbers);
+        self.log.push_reserved(entry);
+        ScratchBuffers {
+            links,
+            edges: numbers,
+            near,
+        }
+    }
+
+    /// The same for an outcome, whose work has the old numbers still. It hands back the lists of
+    /// the work and of the outcome.
     pub fn finish(&mut self, outcome: Outcome, entry: Entry) -> Spent
         requires can { CanFinish self.old outcome }
         requires tasks { AreTasksOf self.old.local self.old.tasks }
-        ensures updated { HasUpdated self.old self.new outcome entry }
+        ensures updated { HasUpdated self.old self.new (made_of outcome) entry }
         ensures written { HasWritten self.old self.new outcome }
         ensures back { (x : ℕ) →
             links_at self.new.local x ≡
@@ -48,18 +98,27 @@ impl Numbers {
             woken,
         } = outcome;
         let Work {
+            scope,
             vertex,
+            id,
             row,
             near,
             ..
         } = work;
         let Row { links, numbers } = row;
-        renew(&mut self.local, vertex, value);
-        end_task(&mut self.tasks, &self.local, vertex);
-        let sides = self.local.sides(vertex);
-        wake_along(&mut self.tasks, &self.local, sides, &links, woken, value);
-        self.local.put_row(vertex, &edges);
-        self.log.push_reserved(entry);
+        let row = Row {
+            links,
+            numbers: edges,
+        };
+        let run = Work {
+            scope,
+            vertex,
+            id,
+            value,
+            row,
+            near,
+        };
+        let ScratchBuffers { links, edges, near } = self.finish_work(run, woken, entry);
         Spent {
             links,
             edges: numbers,

@@ -12,7 +12,7 @@ ghost use Rattle.local_graph.specs.declared.works.Outcome.{Outcome};
 ghost use Rattle.wire.specs.declared.wire_msgs.messages.Done.{Done};
 ghost use Rattle.partition.specs.declared.machine_numbers.keeping.Numbers.{Numbers};
 ghost use Rattle.partition.specs.machine_numbers.Views.{LocalView, TasksView, AreTasksOf, IsPlayedFrom, News, news_of, is_own, sides_at};
-ghost use Rattle.partition.specs.machine_numbers.Steps.{HasLearned, HasTakenOut, HasUpdated, IsSideHere, TellsOf};
+ghost use Rattle.partition.specs.machine_numbers.Steps.{HasLearned, HasTakenOut, HasUpdated, IsSideHere, MadeUpdate, TellsOf, made_of};
 ghost use Rattle.partition.specs.machine_numbers.Settings.{Setting, IsLocalOf, Part, applied, updated, news_for, with_numbers, IsOutcomeOf, IsMadeOfWork, EdgesShared};
 
 /// What a machine learns of an update elsewhere is the effect on its data, edges and tasks that the
@@ -25,19 +25,19 @@ pub fn news_are_applied()
 {}
 
 /// What a machine keeps of an update is the effect on its data, edges, tasks and log that the
-/// cluster has of it, for every setting of which the outcome is the update.
+/// cluster has of it, for every setting whose program made it.
 pub fn updates_are_made()
-    ensures { (st : Setting) (s : ScopeId) (o : Outcome) (entry : Entry) (old new : Numbers)
+    ensures { (st : Setting) (s : ScopeId) (o : MadeUpdate) (entry : Entry) (old new : Numbers)
         (part : Part) → IsOutcomeOf st old o → HasUpdated old new o entry →
-        with_numbers new (updated st old.local.me.0 s o.work.vertex.0 entry
-        (with_numbers old part)) ≡ updated st old.local.me.0 s o.work.vertex.0 entry
+        with_numbers new (updated st old.local.me.0 s o.vertex.0 entry
+        (with_numbers old part)) ≡ updated st old.local.me.0 s o.vertex.0 entry
         (with_numbers old part) }
 {}
 
 /// What is told to each other machine is what the cluster's effect tells it.
 pub fn lists_are_the_news()
     ensures { (st : Setting) (to : MachineNo) (o : Outcome) (done : Done) (n : Numbers)
-        (part : Part) → IsOutcomeOf st n o → EdgesShared st o.work.vertex.0 → TellsOf n to o done →
+        (part : Part) → IsOutcomeOf st n (made_of o) → EdgesShared st o.work.vertex.0 → TellsOf n to o done →
         news_of done ≡ news_for st (with_numbers n part) o.work.vertex.0 to.0 }
 {}
 
@@ -61,5 +61,6 @@ pub fn sides_are_here()
 pub fn works_have_the_numbers()
     ensures { (st : Setting) (old new : Numbers) (scope : ScopeId) (v : Vertex) (o : Outcome) →
         IsLocalOf st old.local → is_own old.local v.0 ≡ true →
-        HasTakenOut old new scope v o.work → IsMadeOfWork st.program o → IsOutcomeOf st old o }
+        HasTakenOut old new scope v o.work → IsMadeOfWork st.program o →
+        IsOutcomeOf st old (made_of o) }
 {}

@@ -1,5 +1,5 @@
 -- An update that is made on a machine's own numbers.
-pub use Rattle.partition.specs.machine_numbers.Steps.{HasUpdated, IsSideHere}
+pub use Rattle.partition.specs.machine_numbers.Steps.{HasUpdated, IsSideHere, MadeUpdate, made_of, run_of}
 pub use Rattle.partition.specs.machine_numbers.Settings.{IsOutcomeOf, IsLocalOf}
 pub use Rattle.partition.specs.machine_numbers.Views.{AreTasksOf, datum_here, edge_here}
 pub use Rattle.machine_core.specs.machine_parts.Parts.{row_at, sides_at}
@@ -45,10 +45,10 @@ pub record HasRunOne (old new : Numbers) : Type 0 where
 
 -- the update of v is kept: it is what the program makes of the numbers as they stood
 pub record HasMadeHere (program : Update) (old new : Numbers) (v : Vertex) (entry : Entry) : Type 0 where
-  pub outcome : Outcome
-  pub vertex : outcome.work.vertex ≡ v
-  pub updated : HasUpdated old new outcome entry
-  pub is : (st : Setting) → IsLocalOf st old.local → st.program ≡ program → IsOutcomeOf st old outcome
+  pub made : MadeUpdate
+  pub vertex : made.vertex ≡ v
+  pub updated : HasUpdated old new made entry
+  pub is : (st : Setting) → IsLocalOf st old.local → st.program ≡ program → IsOutcomeOf st old made
   pub graph : KeepsGraph old.local new.local
   pub ghosts : new.ghosts ≡ old.ghosts
   pub run : HasRunOne old new
