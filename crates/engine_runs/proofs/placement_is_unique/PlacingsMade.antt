@@ -15,27 +15,34 @@ least_of load (suc machines) some = elim (cases_lt 0 machines) [
   | inl more ↦
       let before : (m : ℕ) × IsLeastLoaded load machines m = least_of load machines more in
       elim (cases_lt (load machines) (load before.0)) [
-        | inl less ↦ (machines, record {
-          below = omega arith;
-          least = λ k low. elim (cases_lt k machines) [
-            | inl earlier ↦ omega (arith, before.1.least k earlier)
-            | inr last ↦ subst (λ (n : ℕ). load machines ≤ load n) (last_is k low last) (omega arith)
-          ];
-          lower = λ k low. omega (arith, before.1.least k low);
-        })
-        | inr as_much ↦ (before.0, record {
-          below = omega (arith, before.1.below);
-          least = λ k low. elim (cases_lt k machines) [
-            | inl earlier ↦ before.1.least k earlier
-            | inr last ↦ subst (λ (n : ℕ). load before.0 ≤ load n) (last_is k low last) as_much
-          ];
-          lower = before.1.lower;
-        })
+        | inl less ↦ (
+          machines,
+          record {
+            below = omega arith;
+            least = λ k low. elim (cases_lt k machines) [
+              | inl earlier ↦ omega (arith, before.1.least k earlier)
+              | inr last ↦ subst (λ (n : ℕ). load machines ≤ load n) (last_is k low last) (omega arith)
+            ];
+            lower = λ k low. omega (arith, before.1.least k low);
+          },
+        )
+        | inr as_much ↦ (
+          before.0,
+          record {
+            below = omega (arith, before.1.below);
+            least = λ k low. elim (cases_lt k machines) [
+              | inl earlier ↦ before.1.least k earlier
+              | inr last ↦ subst (λ (n : ℕ). load before.0 ≤ load n) (last_is k low last) as_much
+            ];
+            lower = before.1.lower;
+          },
+        )
       ]
 ]
   where
     zero_is : (k : ℕ) → k < suc machines → machines ≤ 0 → 0 ≡ k
     zero_is k low none = omega arith
+
     last_is : (k : ℕ) → k < suc machines → machines ≤ k → machines ≡ k
     last_is k low last = omega arith
 
