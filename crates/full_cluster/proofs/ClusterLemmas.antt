@@ -3,15 +3,15 @@ use Rattle.std.proofs.Common.{◌≡◌, ◌≢◌, ℕ, ◌<◌, ◌≤◌, Lis
 use Rattle.std.specs.List.{All}
 use Rattle.std.specs.Prelude.{Err, Ok, OnErr, OnOk, Result}
 use Rattle.std.proofs.Math.ListN.{length-set}
-use Rattle.std.proofs.lemmas.Bool.{cases_eq}
+use Rattle.std.proofs.lemmas.Bool.{cases_eq, cases_lt}
 use Rattle.std.proofs.lemmas.List.{get_or_default}
 use Rattle.gl_base.specs.declared.numbers.MachineNo.{MachineNo}
 use Rattle.gl_base.specs.scope_lists.Scopes.{set_at}
 use Rattle.graph_core.specs.DataGraph.{DataGraph, size}
 use Rattle.cluster_laws.specs.cluster_core.Settings.{IsSetting, Setting}
 use Rattle.full_scope.specs.FullUpdates.{FullUpdate}
-use Rattle.full_laws.specs.FullActions.{Admits, FullAction, Grants, HasFirstFull, MayAdmitFull, MayGrantFull, MayHappenFull, Sends, after_action, sends_full}
-use Rattle.full_laws.specs.FullEffects.{admitted_full, granted_full}
+use Rattle.full_laws.specs.FullActions.{Admits, Delivers, FullAction, Grants, HasFirstFull, MayAdmitFull, MayGrantFull, MayHappenFull, Sends, after_action, delivers_full, sends_full}
+use Rattle.full_laws.specs.FullEffects.{admitted_full, granted_full, received_full}
 use Rattle.full_laws.specs.FullMessages as model
 use Rattle.full_laws.specs.FullParts.{FullPart}
 use Rattle.full_laws.specs.FullReplays.{IsFullCoherent}
@@ -24,11 +24,11 @@ use Rattle.full_cluster.specs.declared.machines.FullMachine.{FullMachine}
 use Rattle.full_cluster.specs.declared.queues.FullQueues.{FullQueues}
 use Rattle.full_cluster.specs.declared.clusters.FullCluster.{FullCluster}
 use Rattle.full_cluster.specs.FullClusters.{AreOfWorld, HasApplied, IsCluster, IsClusterOf, IsLinkOf, IsReached, IsSeatOf, IsSettingOf, IsUnused}
-use Rattle.full_cluster.specs.FullMachines.{AreScopesOnce, AskForIt, HasSentFrom, IsMachineOf, IsOneOf, IsSameMachine, IsSizedFor}
+use Rattle.full_cluster.specs.FullMachines.{AreScopesOnce, AskForIt, GivesWhatItHolds, HasDelivered, HasSentFrom, IsMachineOf, IsOneOf, IsSameMachine, IsSizedFor}
 use Rattle.full_cluster.specs.FullQueues.{AreQueuesOf}
 use Rattle.full_cluster.specs.Given.{IsDividedAs}
 use Rattle.full_cluster.specs.Owners.{owner_in}
-use Rattle.full_cluster.proofs.CoherentLemmas.{asks}
+use Rattle.full_cluster.proofs.CoherentLemmas.{asks, first_gives}
 use Rattle.full_cluster.proofs.QueueLemmas.{no_first}
 
 run_more : (st : Setting) (p : FullUpdate) (actions : List FullAction) (old new : FullWorld) (action : FullAction) → IsFullRun st p old actions new → MayHappenFull st new action → IsFullRun st p old (actions ++ action ∷ []) (after_action st p new action)
@@ -267,3 +267,37 @@ pub both_same : (st : Setting) (p : FullUpdate) (w : FullWorld) (machines : List
 both_same st p w machines links next left a b m new old_link link low from are seat link_is still count same =
     world_of_both st p w w machines links next left a b new link low from are are.reached (λ k off. refl) (λ k off. refl) refl refl
     (seat_still st a m new (w.part a) (w.part a) seat still same.0) (record { count = count ∙ link_is.count; are = same.1 })
+
+-- ---- a message is delivered
+
+pub delivered : (st : Setting) (p : FullUpdate) (w : FullWorld) (machines : List FullMachine) (links : List FullQueues) (next left a b : ℕ) (m new : FullMachine) (old_link link : FullQueues) →
+    a < length machines → b < length links → AreOfWorld st p w machines links next left → IsSeatOf st a m (w.part a) → IsLinkOf st old_link (w.link b) → IsSameMachine m new → length link.queues.items ≡ length old_link.queues.items →
+    HasDelivered st new link.queues.items (w.link b) m.me.0 (w.part a) → HasFirstFull (w.link b a) × AreOfWorld st p (after_action st p w (Delivers b a)) (slice_set machines a new) (slice_set links b link) next left
+delivered st p w machines links next left a b m new old_link link low from are seat link_is still count done =
+    let own : HasDelivered st new link.queues.items (w.link b) a (w.part a) = subst (λ (k : ℕ). HasDelivered st new link.queues.items (w.link b) k (w.part a)) seat.me done in
+    let part : FullPart = received_full st a own.first.message (w.part a) in (
+      own.first,
+      both_changed st p w (after_action st p w (Delivers b a)) machines links next left a b a new link part own.first.behind
+          (ap (delivers_full st w b a) own.first.first) low from are (reached_more st p w (Delivers b a) are.reached own.first)
+          (seat_still st a m new (w.part a) part seat still own.machine) (record { count = count ∙ link_is.count; are = own.links }),
+    )
+
+-- what the machine is given has a number of each vertex whose lock is let go with it
+pub gives_here : (st : Setting) (p : FullUpdate) (w : FullWorld) (a b : ℕ) (m : FullMachine) → IsSetting st → IsReached st p w → m.me.0 ≡ a → (has : HasFirstFull (w.link b m.me.0)) → GivesWhatItHolds st (w.part a) has.message
+gives_here st p w a b m setting reached me =
+    subst (λ (k : ℕ). (has : HasFirstFull (w.link b k)) → GivesWhatItHolds st (w.part a) has.message) (sym me)
+    (λ has. first_gives st p w (reached_coherent st p w setting reached) b a has)
+
+some_links : (links : List FullQueues) (b : ℕ) → b < length links → FullQueues
+some_links [] b low = absurd (omega (arith, low))
+some_links (x ∷ links) b low = x
+
+-- no message is on its way to a machine that isn't there
+pub reaches_nothing : (st : Setting) (p : FullUpdate) (w : FullWorld) (machines : List FullMachine) (links : List FullQueues) (next left b a : ℕ) → AreOfWorld st p w machines links next left → st.machines ≤ a → HasFirstFull (w.link b a) → ⊥
+reaches_nothing st p w machines links next left b a are past has = ⊎_elim
+    (λ (low : b < st.machines).
+    let inside : b < length links = subst (λ (n : ℕ). b < n) (sym are.link_count) low in
+    let link = are.links_are b (some_links links b inside) inside in
+    no_first (w.link b a) (link.are.beyond a (subst (λ (n : ℕ). n ≤ a) (sym link.count) past)) has)
+    (λ (far : st.machines ≤ b). brings_nothing st p w machines links next left b a are far has)
+    (cases_lt b st.machines)

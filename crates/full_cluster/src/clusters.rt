@@ -2,7 +2,7 @@
 ghost use Rattle.std.specs.Prelude.{◌≡◌, ℕ, OnOk, OnErr, IsErrOf};
 ghost use Rattle.cluster_laws.specs.cluster_core.Settings.{Setting};
 ghost use Rattle.full_scope.specs.FullUpdates.{FullUpdate};
-ghost use Rattle.full_laws.specs.FullActions.{Admits, Grants, MayHappenFull, Sends};
+ghost use Rattle.full_laws.specs.FullActions.{Admits, Delivers, Grants, MayHappenFull, Sends};
 ghost use Rattle.full_laws.specs.FullWorlds.{FullWorld};
 ghost use Rattle.full_cluster.specs.FullClusters.{HasApplied, IsCluster, IsClusterOf, IsSettingOf};
 
@@ -121,5 +121,41 @@ impl FullCluster {
             return Err(Refused::NotNow);
         }
         self.machines[place].send(&mut self.links[place], to)
+    }
+
+    /// The first message of a link is received. `NotNow` comes exactly where the cluster of the model
+    /// may not make this event, and after an error the cluster is unchanged.
+    pub fn deliver(
+        &mut self,
+        alloc: Global,
+        division: &Division<'_>,
+        terms: FullTerms,
+        from: MachineNo,
+        to: MachineNo,
+    ) -> Result<(), Refused>
+        requires cluster { IsCluster division.now terms self.old }
+        ensures cluster { IsCluster division.now terms self.new }
+        ensures applied { (st : Setting) (p : FullUpdate) (w : FullWorld) →
+            IsSettingOf st division.now terms → IsClusterOf st p w self.old →
+            OnOk result (HasApplied st p w (Delivers from.0 to.0) self.new) }
+        ensures not_now { (st : Setting) (p : FullUpdate) (w : FullWorld) →
+            IsSettingOf st division.now terms → IsClusterOf st p w self.old →
+            IsErrOf result Refused.NotNow → MayHappenFull st w (Delivers from.0 to.0) → ⊥ }
+        ensures no_memory { (st : Setting) (p : FullUpdate) (w : FullWorld) →
+            IsSettingOf st division.now terms → IsClusterOf st p w self.old →
+            IsErrOf result Refused.NoMemory → MayHappenFull st w (Delivers from.0 to.0) }
+        ensures unchanged { (st : Setting) (p : FullUpdate) (w : FullWorld) →
+            IsSettingOf st division.now terms → IsClusterOf st p w self.old →
+            OnErr result (IsClusterOf st p w self.new) }
+    {
+        let source = from.0 as usize;
+        let place = to.0 as usize;
+        if place >= self.machines.len() {
+            return Err(Refused::NotNow);
+        }
+        if source >= self.links.len() {
+            return Err(Refused::NotNow);
+        }
+        self.machines[place].deliver(alloc, division, &mut self.links[source])
     }
 }
