@@ -15,7 +15,7 @@ use Rattle.full_laws.specs.FullEffects.{admitted_full, granted_full, received_fu
 use Rattle.full_laws.specs.FullMessages as model
 use Rattle.full_laws.specs.FullParts.{FullPart}
 use Rattle.full_laws.specs.FullReplays.{IsFullCoherent}
-use Rattle.full_laws.specs.FullRuns.{IsFullRun, IsFullStart}
+use Rattle.full_laws.specs.FullRuns.{IsFullRun}
 use Rattle.full_laws.specs.FullWorlds.{FullWorld, with_full_link, with_full_part}
 use Rattle.full_laws.proofs.FullCoherence.{coherent, run_kept, start_kept}
 use Rattle.full_cluster.specs.declared.admitting.FullTerms.{FullTerms}

@@ -8,3 +8,4 @@ pub mod Orders
 pub mod FullQueues
 pub mod FullMachines
 pub mod FullClusters
+pub mod FullEvents

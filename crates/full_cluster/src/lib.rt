@@ -6,6 +6,7 @@ mod admitting;
 mod arriving;
 mod clusters;
 mod divisions;
+mod events;
 mod giving;
 mod granting;
 mod kept;
@@ -24,6 +25,7 @@ mod ways;
 pub use admitting::FullTerms;
 pub use clusters::FullCluster;
 pub use divisions::Division;
+pub use events::FullEvent;
 pub use giving::FullGift;
 pub use kept::KeptNumbers;
 pub use laws::{

@@ -2,9 +2,6 @@
 use Rattle.std.proofs.Common.{◌<◌, ◌≤◌, length, arith}
 use Rattle.std.proofs.lemmas.Result.{on_err_weaker, on_ok_weaker}
 use Rattle.full_laws.specs.FullActions.{Delivers}
-use Rattle.full_laws.specs.FullMessages as model
-use Rattle.full_cluster.specs.FullQueues.{AreQueuesOf}
-use Rattle.full_cluster.specs.FullMachines.{IsMachineOf}
 use Rattle.full_cluster.proofs.ClusterLemmas.{both_same, brings_nothing, delivered, gives_here, link_at, reached_coherent, reaches_nothing, seat_at, seat_own, still_cluster}
 use Rattle.full_cluster.proofs.CoherentLemmas.{receivable}
 use Rattle.full_cluster.proofs.clusters.FullCluster.deliver.Goals as goal
