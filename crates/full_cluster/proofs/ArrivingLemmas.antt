@@ -1,5 +1,5 @@
 -- The first message of a queue, and what comes with it.
-use Rattle.std.proofs.Common.{◌≡◌, ◌⊎◌, ℕ, suc, ◌==◌, Bool, true, false, Some, List, [], ◌∷◌, slice_get, slice_index_or, ◌<◌, refl, sym, ◌∙◌, subst, ⊎_elim, inl, inr, arith}
+use Rattle.std.proofs.Common.{◌≡◌, ◌⊎◌, ℕ, suc, ◌==◌, true, false, Some, List, [], ◌∷◌, slice_get, slice_index_or, ◌<◌, refl, sym, ◌∙◌, subst, ⊎_elim, inl, inr, arith}
 use Rattle.std.specs.List.{All}
 use Rattle.std.proofs.lemmas.Bool.{cases_Bool}
 use Rattle.std.proofs.lemmas.Option.{slice_get_within}

@@ -1,5 +1,5 @@
 -- What is given along the half-edges at a vertex is what the model gives.
-use Rattle.std.proofs.Common.{◌≡◌, ◌≢◌, ℕ, ◌<◌, ◌==◌, ◌&&◌, ◌||◌, Bool, true, false, None, Some, unwrap_or, if◌then◌else◌, List, [], ◌∷◌, ◌++◌, length, map, slice_index, slice_index_or, refl, sym, ◌∙◌, ap, subst, ⊎_elim, inl, inr, eq-eqb, ne_eqb, eqb-true, true≢false, suc, arith}
+use Rattle.std.proofs.Common.{◌≡◌, ◌≢◌, ℕ, ◌<◌, ◌==◌, ◌&&◌, ◌||◌, Bool, true, false, None, Some, unwrap_or, if◌then◌else◌, List, [], ◌∷◌, ◌++◌, length, map, slice_index_or, refl, sym, ◌∙◌, ap, subst, ⊎_elim, inl, inr, eq-eqb, ne_eqb, eqb-true, true≢false, suc, arith}
 use Rattle.std.specs.List.{AllByRecursion, list_any}
 use Rattle.std.proofs.lemmas.Bool.{and_from, and_parts, cases_Bool, cases_eq, or_cases, or_left, or_right}
 use Rattle.std.proofs.lemmas.List.{get_or_default}
@@ -23,8 +23,7 @@ use Rattle.full_laws.specs.FullEffects.{gift_for}
 use Rattle.full_laws.specs.Items.{AVertex, AnEdge, is_written, keeps}
 use Rattle.full_laws.proofs.FullMaking.{end_is}
 use Rattle.full_cluster.specs.declared.giving.FullGift.{FullGift}
-use Rattle.full_cluster.specs.declared.kept.KeptNumbers.{KeptNumbers}
-use Rattle.full_cluster.specs.Given.{HasWritten, IsGift, edge_after, is_listed, vertex_after}
+use Rattle.full_cluster.specs.Given.{IsGift, edge_after, is_listed, vertex_after}
 use Rattle.full_cluster.specs.Inner.Giving.{IsAdded, IsGivenAlong, leads_to_own, shares_edge}
 use Rattle.full_cluster.specs.Inner.Rows.{wakes_own}
 use Rattle.full_cluster.proofs.FinishLemmas.{own_woken}
@@ -66,8 +65,8 @@ last_woken : (own along before : Bool) (at : Bool) → own ≡ true → ((along 
 last_woken false along before at is_own = absurd (true≢false (sym is_own))
 last_woken true along before at is_own = or_turned (along && at) before
 
-module _ (owner : ℕ → ℕ) (q : ℕ) (woken : Woken) (kept : KeptNumbers) where
-  pub given_none : (gift : FullGift) → gift.numbers.items ≡ [] → gift.edges.items ≡ [] → gift.wakes.items ≡ [] → IsGivenAlong owner q woken kept [] gift
+module _ (owner : ℕ → ℕ) (q : ℕ) (woken : Woken) (s : GraphState) where
+  pub given_none : (gift : FullGift) → gift.numbers.items ≡ [] → gift.edges.items ≡ [] → gift.wakes.items ≡ [] → IsGivenAlong owner q woken s [] gift
   given_none gift numbers edges wakes =
       record {
         vertices = λ x here. ap (λ pairs. vertex_after pairs x here) numbers;
@@ -76,20 +75,20 @@ module _ (owner : ℕ → ℕ) (q : ℕ) (woken : Woken) (kept : KeptNumbers) wh
       }
 
   -- the next half leads to a vertex of the machine
-  pub given_more : (halves : List Half) (h : Half) (old new : FullGift) → (owner h.other.0 == q) ≡ true → IsGivenAlong owner q woken kept halves old →
-      IsAdded kept h (is_woken_along woken h.out) old new → IsGivenAlong owner q woken kept (halves ++ h ∷ []) new
+  pub given_more : (halves : List Half) (h : Half) (old new : FullGift) → (owner h.other.0 == q) ≡ true → IsGivenAlong owner q woken s halves old →
+      IsAdded s h (is_woken_along woken h.out) old new → IsGivenAlong owner q woken s (halves ++ h ∷ []) new
   given_more halves h old new is_own is added =
       record {
         vertices = λ x here.
             added.vertices x here
-            ∙ ap (λ n. if h.other.0 == x then slice_index kept.numbers.items h.other.0 else n) (is.vertices x here)
-            ∙ last (owner h.other.0 == q) (leads_to_own owner q halves x) h.other.0 x (slice_index kept.numbers.items h.other.0) (slice_index kept.numbers.items x) here is_own (ap (slice_index kept.numbers.items))
-            ∙ ap (λ b. if b then slice_index kept.numbers.items x else here) (sym (one_more (λ (k : Half). owner k.other.0 == q && k.other.0 == x) halves h));
+            ∙ ap (λ n. if h.other.0 == x then s.vertex h.other.0 else n) (is.vertices x here)
+            ∙ last (owner h.other.0 == q) (leads_to_own owner q halves x) h.other.0 x (s.vertex h.other.0) (s.vertex x) here is_own (ap s.vertex)
+            ∙ ap (λ b. if b then s.vertex x else here) (sym (one_more (λ (k : Half). owner k.other.0 == q && k.other.0 == x) halves h));
         edges = λ e here.
             added.edges e here
-            ∙ ap (λ n. if h.edge.0 == e then slice_index kept.edges.items h.edge.0 else n) (is.edges e here)
-            ∙ last (owner h.other.0 == q) (shares_edge owner q halves e) h.edge.0 e (slice_index kept.edges.items h.edge.0) (slice_index kept.edges.items e) here is_own (ap (slice_index kept.edges.items))
-            ∙ ap (λ b. if b then slice_index kept.edges.items e else here) (sym (one_more (λ (k : Half). owner k.other.0 == q && k.edge.0 == e) halves h));
+            ∙ ap (λ n. if h.edge.0 == e then s.edge h.edge.0 else n) (is.edges e here)
+            ∙ last (owner h.other.0 == q) (shares_edge owner q halves e) h.edge.0 e (s.edge h.edge.0) (s.edge e) here is_own (ap s.edge)
+            ∙ ap (λ b. if b then s.edge e else here) (sym (one_more (λ (k : Half). owner k.other.0 == q && k.edge.0 == e) halves h));
         wakes = λ u.
             added.wakes u
             ∙ ap (λ b. (is_woken_along woken h.out && h.other.0 == u) || b) (is.wakes u)
@@ -98,16 +97,16 @@ module _ (owner : ℕ → ℕ) (q : ℕ) (woken : Woken) (kept : KeptNumbers) wh
       }
 
   -- the next half leads elsewhere
-  pub given_same : (halves : List Half) (h : Half) (gift : FullGift) → (owner h.other.0 == q) ≡ false → IsGivenAlong owner q woken kept halves gift → IsGivenAlong owner q woken kept (halves ++ h ∷ []) gift
+  pub given_same : (halves : List Half) (h : Half) (gift : FullGift) → (owner h.other.0 == q) ≡ false → IsGivenAlong owner q woken s halves gift → IsGivenAlong owner q woken s (halves ++ h ∷ []) gift
   given_same halves h gift not_own is =
       record {
         vertices = λ x here.
             is.vertices x here
-            ∙ ap (λ b. if b then slice_index kept.numbers.items x else here)
+            ∙ ap (λ b. if b then s.vertex x else here)
             (sym (one_more (λ (k : Half). owner k.other.0 == q && k.other.0 == x) halves h ∙ no_more (owner h.other.0 == q) (leads_to_own owner q halves x) (h.other.0 == x) not_own));
         edges = λ e here.
             is.edges e here
-            ∙ ap (λ b. if b then slice_index kept.edges.items e else here)
+            ∙ ap (λ b. if b then s.edge e else here)
             (sym (one_more (λ (k : Half). owner k.other.0 == q && k.edge.0 == e) halves h ∙ no_more (owner h.other.0 == q) (shares_edge owner q halves e) (h.edge.0 == e) not_own));
         wakes = λ u.
             is.wakes u
@@ -235,22 +234,22 @@ module _ (st : Setting) (is : IsSetting st) (v q : ℕ) (away : st.owner v ≢ q
           between
 
   -- what was gathered along the halves is what the model gives
-  pub gift_is : (p : FullUpdate) (lent : GraphState) (owner : ℕ → ℕ) (woken : Woken) (kept : KeptNumbers) (halves : List Half) (gift : FullGift) → st.owner ≡ owner → map data_half halves ≡ halves_of st.graph v →
-      HasWritten st (after_full st.graph p lent v) v kept → ((u : ℕ) → full_wakes st.graph p lent v u ≡ is_woken woken (halves_of st.graph v) u) → IsGivenAlong owner q woken kept halves gift → IsGift st gift (gift_for st p lent v q)
-  gift_is p lent owner woken kept halves gift owners same has wakes along =
+  pub gift_is : (p : FullUpdate) (lent : GraphState) (owner : ℕ → ℕ) (woken : Woken) (halves : List Half) (gift : FullGift) → st.owner ≡ owner → map data_half halves ≡ halves_of st.graph v →
+      ((u : ℕ) → full_wakes st.graph p lent v u ≡ is_woken woken (halves_of st.graph v) u) → IsGivenAlong owner q woken (after_full st.graph p lent v) halves gift → IsGift st gift (gift_for st p lent v q)
+  gift_is p lent owner woken halves gift owners same wakes along =
       record {
         vertices = λ x here inside.
             let lead : leads_to_own owner q halves x ≡ (keeps st q (AVertex x) && is_written st v (AVertex x)) =
             (λ k. leads_to_own (sym owners k) q halves x) ∙ any_data (λ (h : DataHalf). st.owner h.other == q && h.other == x) halves ∙ ap (list_any (λ (h : DataHalf). st.owner h.other == q && h.other == x)) same ∙ vertices_there x in
             along.vertices x here
-            ∙ given_or (leads_to_own owner q halves x) (keeps st q (AVertex x) && is_written st v (AVertex x)) (slice_index kept.numbers.items x) ((after_full st.graph p lent v).vertex x) here lead
-            (λ both. has (AVertex x) inside (and_parts (keeps st q (AVertex x)) (is_written st v (AVertex x)) both).1);
+            ∙ given_or (leads_to_own owner q halves x) (keeps st q (AVertex x) && is_written st v (AVertex x)) ((after_full st.graph p lent v).vertex x) ((after_full st.graph p lent v).vertex x) here lead
+            (λ both. refl);
         edges = λ e here inside.
             let share : shares_edge owner q halves e ≡ (keeps st q (AnEdge e) && is_written st v (AnEdge e)) =
             (λ k. shares_edge (sym owners k) q halves e) ∙ any_data (λ (h : DataHalf). st.owner h.other == q && h.edge == e) halves ∙ ap (list_any (λ (h : DataHalf). st.owner h.other == q && h.edge == e)) same ∙ edges_there e inside in
             along.edges e here
-            ∙ given_or (shares_edge owner q halves e) (keeps st q (AnEdge e) && is_written st v (AnEdge e)) (slice_index kept.edges.items e) ((after_full st.graph p lent v).edge e) here share
-            (λ both. has (AnEdge e) inside (and_parts (keeps st q (AnEdge e)) (is_written st v (AnEdge e)) both).1);
+            ∙ given_or (shares_edge owner q halves e) (keeps st q (AnEdge e) && is_written st v (AnEdge e)) ((after_full st.graph p lent v).edge e) ((after_full st.graph p lent v).edge e) here share
+            (λ both. refl);
         wakes = λ u inside.
             along.wakes u ∙ (λ k. wakes_own (sym owners k) q woken halves u) ∙ own_woken st.owner q woken u halves
             ∙ ap (λ b. st.owner u == q && b) (ap (λ hs. is_woken woken hs u) same ∙ sym (wakes u));

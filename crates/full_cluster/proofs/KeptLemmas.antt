@@ -1,16 +1,17 @@
 -- What an update leaves at its home, where its numbers were gathered.
-use Rattle.std.proofs.Common.{◌≡◌, ℕ, ◌<◌, ◌==◌, ◌&&◌, ◌||◌, not, Bool, true, false, None, Option, Some, unwrap_or, List, length, map, slice_index, sym, ◌∙◌, ap, ap₂, subst, ⊎_elim}
+use Rattle.std.proofs.Common.{◌≡◌, ℕ, ◌<◌, ◌==◌, ◌&&◌, ◌||◌, not, Bool, true, false, None, Option, Some, unwrap_or, All, List, length, map, slice_index, slice_index_or, sym, ◌∙◌, ap, ap₂, subst, ⊎_elim}
 use Rattle.std.proofs.lemmas.Bool.{and_from, and_right, cases_Bool, cond-false, cond-true}
 use Rattle.gl_base.specs.declared.entries.Entry.{Entry}
 use Rattle.gl_base.specs.declared.scopes.ScopeId.{ScopeId}
 use Rattle.graph_core.specs.declared.halves.Half.{Half}
 use Rattle.graph_core.specs.DataGraph.{size}
 use Rattle.graph_core.specs.HalfRows.{data_half}
-use Rattle.graph_core.specs.Halves.{halves_of}
+use Rattle.graph_core.specs.Halves.{DataHalf, halves_of}
 use Rattle.graph_core.proofs.HalvesLaws.{IsHalfAt, each-weaker, halves_are}
 use Rattle.update_api.specs.declared.woken.Woken.{Woken}
 use Rattle.seq_run.specs.Runs.{AreNumbers}
 use Rattle.seq_run.specs.States.{GraphState, is_woken, near_of}
+use Rattle.seq_run.proofs.EachOf.{each_is}
 use Rattle.cluster_laws.specs.cluster_core.Effects.{is_end}
 use Rattle.cluster_laws.specs.cluster_core.Settings.{IsSetting, Setting, is_in_scope, nth_edge}
 use Rattle.cluster_laws.proofs.cluster_core.Nearness.{scope_within, scoped_itself, scoped_near}
@@ -23,9 +24,28 @@ use Rattle.full_laws.specs.FullParts.{FullPart}
 use Rattle.full_laws.specs.Items.{AVertex, AnEdge, IsItem, Item, is_written, keeps, number_in}
 use Rattle.full_laws.proofs.FullMaking.{end_is, keeps_edge, near_with, unwritten}
 use Rattle.full_cluster.specs.Given.{AreOfScope, HasLists, is_marked}
+use Rattle.full_cluster.specs.Inner.Making.{IsMade}
 use Rattle.full_cluster.specs.Inner.Rows.{wakes_own}
 use Rattle.full_cluster.specs.Written.{state_in}
 use Rattle.full_cluster.proofs.FinishLemmas.{own_woken}
+
+-- what was made has the numbers of a state that has the same of all that the update writes
+pub made_as : (st : Setting) (is : IsSetting st) (v : ℕ) → v < size st.graph → (a b : GraphState) → ((i : Item) → IsItem st.graph i → is_written st v i ≡ true → number_in a i ≡ number_in b i) → (centre : ℕ) (row : List ℕ) → IsMade st.graph a v centre row → IsMade st.graph b v centre row
+made_as st is v low a b same centre row made =
+    let all : All (IsHalfAt st.graph is.graph v) (halves_of st.graph v) = each_is (IsHalfAt st.graph is.graph v) (halves_of st.graph v) (halves_are st.graph is.graph v) in
+    record {
+      own = made.own ∙ same (AVertex v) low (scoped_itself st is v);
+      count = made.count;
+      near = λ i d inside.
+          let h : DataHalf = slice_index_or (halves_of st.graph v) i d in
+          let between = half_between st is v h (all i d inside) in
+          let scoped : is_in_scope st v h.other ≡ true = scoped_near st is v h.other (ends_near st is h.edge v h.other between.0 between.1) in
+          made.near i d inside ∙ same (AVertex h.other) (scope_within st is v h.other low scoped) scoped;
+      edge = λ i d inside.
+          let h : DataHalf = slice_index_or (halves_of st.graph v) i d in
+          let between = half_between st is v h (all i d inside) in
+          made.edge i d inside ∙ same (AnEdge h.edge) between.0 (end_is (nth_edge st h.edge) v h.other between.1);
+    }
 
 module _ (st : Setting) (is : IsSetting st) (p : FullUpdate) (v me : ℕ) (low : v < size st.graph) (owned : st.owner v ≡ me) (old_numbers old_edges : List ℕ) (old_tasks : List Bool) (part : FullPart) (has : HasLists st me old_numbers old_edges old_tasks part) (f : ℕ → Option ℕ) (scope : AreOfScope st v f)
     (written : List ℕ) (are : (x : ℕ) → x < size st.graph → slice_index written x ≡ unwrap_or (f x) (slice_index old_numbers x)) where
@@ -57,7 +77,7 @@ module _ (st : Setting) (is : IsSetting st) (p : FullUpdate) (v me : ℕ) (low :
   pub wakes_same : (u : ℕ) → full_wakes st.graph p s v u ≡ full_wakes st.graph p lent v u
   wakes_same u = full_wakes-same st.graph p s lent v agree u
 
-  after_same : (i : Item) → IsItem st.graph i → is_written st v i ≡ true → number_in (after_full st.graph p s v) i ≡ number_in (after_full st.graph p lent v) i
+  pub after_same : (i : Item) → IsItem st.graph i → is_written st v i ≡ true → number_in (after_full st.graph p s v) i ≡ number_in (after_full st.graph p lent v) i
   after_same (AVertex x) inside at = after-vertex_same st.graph p s lent v agree x (vertex_same x at)
   after_same (AnEdge e) inside at = after-edge_same st.graph p s lent v agree e (edge_same e inside at)
 
@@ -70,10 +90,6 @@ module _ (st : Setting) (is : IsSetting st) (p : FullUpdate) (v me : ℕ) (low :
       (i : Item) → IsItem st.graph i → number_in (state_in numbers edges) i ≡ number_in (after_full st.graph p s v) i
   left numbers edges vertices marks (AVertex x) inside = vertices.each x inside
   left numbers edges vertices marks (AnEdge e) inside = marks.each e inside
-
-  pub written_has : (numbers edges : List ℕ) → AreNumbers (size st.graph) (after_full st.graph p s v).vertex numbers → AreNumbers (length st.graph.edges) (after_full st.graph p s v).edge edges →
-      (i : Item) → IsItem st.graph i → is_written st v i ≡ true → number_in (state_in numbers edges) i ≡ number_in (after_full st.graph p lent v) i
-  written_has numbers edges vertices marks i inside at = left numbers edges vertices marks i inside ∙ after_same i inside at
 
   numbers_left : (numbers edges : List ℕ) → AreNumbers (size st.graph) (after_full st.graph p s v).vertex numbers → AreNumbers (length st.graph.edges) (after_full st.graph p s v).edge edges →
       (i : Item) → IsItem st.graph i → keeps st me i ≡ true → number_in (state_in numbers edges) i ≡ unwrap_or (its_numbers st (after_full st.graph p lent v) v me i) (part.number i)

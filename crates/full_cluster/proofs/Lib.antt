@@ -1,9 +1,11 @@
+pub mod WholeLists
 pub mod WritingRows
 pub mod UpdateLemmas
 pub mod LockLemmas
 pub mod GivenLemmas
 pub mod FinishLemmas
 pub mod KeptLemmas
+pub mod GatheredLemmas
 pub mod GivingLemmas
 pub mod LockRowLemmas
 pub mod ScopeMapLemmas
@@ -11,8 +13,11 @@ pub mod PassingLemmas
 pub mod WayLemmas
 pub mod WayRules
 pub mod QueueLemmas
+pub mod GiftLemmas
 pub mod MachineLemmas
 pub mod GrantLemmas
 pub mod ArrivingLemmas
 pub mod CoherentLemmas
 pub mod ClusterLemmas
+pub mod ReadyLemmas
+pub mod EndLemmas

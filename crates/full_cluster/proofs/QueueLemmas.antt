@@ -48,7 +48,7 @@ queue_set st queues q new out ms low are is =
           rw (ne_eqb k q (λ is. absurd (omega arith))) (are.beyond k past_all);
     }
 
-queues_alike : (st : Setting) (queues : List FullQueue) (out also : ℕ → List model.FullMessage) → ((k : ℕ) → out k ≡ also k) → AreQueuesOf st queues out → AreQueuesOf st queues also
+pub queues_alike : (st : Setting) (queues : List FullQueue) (out also : ℕ → List model.FullMessage) → ((k : ℕ) → out k ≡ also k) → AreQueuesOf st queues out → AreQueuesOf st queues also
 queues_alike st queues out also same are =
     record {
       each = λ k d inside. subst (AreMessages st (slice_index_or queues k d).messages.items) (same k) (are.each k d inside);

@@ -21,6 +21,7 @@ use Rattle.full_scope.specs.FullStates.{after_full, full_wakes}
 use Rattle.full_scope.specs.FullUpdates.{FullUpdate, Surroundings}
 use Rattle.full_scope.proofs.RowLemmas.{number_left, rows_left, seen_is}
 use Rattle.full_scope.proofs.WithEach.{after-edge_other, after-vertex_other}
+use Rattle.full_cluster.specs.Inner.Making.{IsMade}
 use Rattle.full_cluster.specs.Inner.Rows.{AreLinksOf, ComesFrom, IsRowAlong, no_half, nth_half}
 use Rattle.full_cluster.specs.Written.{state_in}
 
@@ -82,31 +83,61 @@ module _ (g : DataGraph) (is : IsDataGraph g) (v : ℕ) (halves : List Half) (sa
       around_after : AreAround g after v links left
       around_after = rows_left g p s v links row left is undirected around written
 
-      pub long : length left ≡ length halves + length halves
-      long = written.as_many ∙ is_row.count
-
-      pub numbers_left : (centre : ℕ) (new : List ℕ) → length numbers ≡ size g → length new ≡ length (slice_set numbers v centre) → centre ≡ p.number seen → ComesFrom (λ i. (nth_half halves i).other.0) (slice_index left) (length halves) (slice_set numbers v centre) new → AreNumbers (size g) after.vertex new
-      numbers_left centre new count as_long its comes =
-          let whole : length (slice_set numbers v centre) ≡ size g = length-set numbers v centre ∙ count in
+      -- what the copies have then
+      pub made_left : (centre : ℕ) → centre ≡ p.number seen → IsMade g after v centre left
+      made_left centre its =
+          let many = around_after.count in
           record {
-            count = as_long ∙ whole;
-            each = λ x inside. comes after.vertex
-                (λ i within. around_after.near i (data_half no_half) (omega (arith, are.count, within)) ∙ ap (λ (h : DataHalf). after.vertex h.other) (half_at i (data_half no_half) within))
-                (λ y there apart. ⊎_elim
-                (λ (own : y ≡ v). ap (slice_index (slice_set numbers v centre)) own ∙ get_or-set_same numbers v centre 0 (omega (arith, count, low)) ∙ its ∙ sym own_left ∙ ap after.vertex (sym own))
-                (λ (other : y ≢ v).
-                get_or-set_other numbers v y centre 0 other
-                ∙ sym (after-vertex_other g p s v y other (each_half (λ h. y ≢ h.other) (λ i within same_end. apart i within (sym same_end)))))
-                (cases_eq y v))
-                x (omega (arith, whole, inside));
+            own = its ∙ sym own_left;
+            count = around_after.full ∙ (λ k. many k + many k);
+            near = λ i d inside. around_after.near i d (omega (arith, many, inside));
+            edge = λ i d inside. ap (λ n. slice_index left (n + i)) (sym many) ∙ around_after.edge i d (omega (arith, many, inside));
           }
 
-      pub edges_left : (new : List ℕ) → length edges ≡ length g.edges → length new ≡ length edges → ComesFrom (λ i. (nth_half halves i).edge.0) (λ i. slice_index left (length halves + i)) (length halves) edges new → AreNumbers (length g.edges) after.edge new
-      edges_left new count as_long comes =
-          record {
-            count = as_long ∙ count;
-            each = λ e inside. comes after.edge
-                (λ i within. ap (λ n. slice_index left (n + i)) (sym are.count) ∙ around_after.edge i (data_half no_half) (omega (arith, are.count, within)) ∙ ap (λ (h : DataHalf). after.edge h.edge) (half_at i (data_half no_half) within))
-                (λ y there apart. sym (after-edge_other g p s v y (each_half (λ h. y ≢ h.edge) (λ i within same_edge. apart i within (sym same_edge)))))
-                e (omega (arith, count, inside));
-          }
+  -- ---- the row of what was made, along the halves
+
+  pub many_are : length halves ≡ length (halves_of g v)
+  many_are = sym (length-map halves data_half) ∙ ap length same
+
+  pub near_there : (after : GraphState) (centre : ℕ) (row : List ℕ) → IsMade g after v centre row → (i : ℕ) → i < length halves → slice_index row i ≡ after.vertex (nth_half halves i).other.0
+  near_there after centre row made i within =
+      made.near i (data_half no_half) (omega (arith, many_are, within)) ∙ ap (λ (h : DataHalf). after.vertex h.other) (half_at i (data_half no_half) within)
+
+  pub edge_there : (after : GraphState) (centre : ℕ) (row : List ℕ) → IsMade g after v centre row → (i : ℕ) → i < length halves → slice_index row (length halves + i) ≡ after.edge (nth_half halves i).edge.0
+  edge_there after centre row made i within =
+      ap (λ n. slice_index row (n + i)) many_are ∙ made.edge i (data_half no_half) (omega (arith, many_are, within)) ∙ ap (λ (h : DataHalf). after.edge h.edge) (half_at i (data_half no_half) within)
+
+  -- ---- what was made is written
+
+  module _ (p : FullUpdate) (numbers edges : List ℕ) (low : v < size g) (centre : ℕ) (row : List ℕ) (made : IsMade g (after_full g p (state_in numbers edges) v) v centre row) where
+    abbrev written_state : GraphState
+    written_state = after_full g p (state_in numbers edges) v
+
+    pub row_long : length row ≡ length halves + length halves
+    row_long = made.count ∙ (λ k. sym many_are k + sym many_are k)
+
+    pub numbers_left : (new : List ℕ) → length numbers ≡ size g → length new ≡ length numbers → ComesFrom (λ i. (nth_half halves i).other.0) (slice_index row) (length halves) (slice_set numbers v centre) new → AreNumbers (size g) written_state.vertex new
+    numbers_left new count as_long comes =
+        let whole : length (slice_set numbers v centre) ≡ size g = length-set numbers v centre ∙ count in
+        record {
+          count = as_long ∙ count;
+          each = λ x inside. comes written_state.vertex
+              (λ i within. near_there written_state centre row made i within)
+              (λ y there apart. ⊎_elim
+              (λ (own : y ≡ v). ap (slice_index (slice_set numbers v centre)) own ∙ get_or-set_same numbers v centre 0 (omega (arith, count, low)) ∙ made.own ∙ ap written_state.vertex (sym own))
+              (λ (other : y ≢ v).
+              get_or-set_other numbers v y centre 0 other
+              ∙ sym (after-vertex_other g p (state_in numbers edges) v y other (each_half (λ h. y ≢ h.other) (λ i within same_end. apart i within (sym same_end)))))
+              (cases_eq y v))
+              x (omega (arith, whole, inside));
+        }
+
+    pub edges_left : (new : List ℕ) → length edges ≡ length g.edges → length new ≡ length edges → ComesFrom (λ i. (nth_half halves i).edge.0) (λ i. slice_index row (length halves + i)) (length halves) edges new → AreNumbers (length g.edges) written_state.edge new
+    edges_left new count as_long comes =
+        record {
+          count = as_long ∙ count;
+          each = λ e inside. comes written_state.edge
+              (λ i within. edge_there written_state centre row made i within)
+              (λ y there apart. sym (after-edge_other g p (state_in numbers edges) v y (each_half (λ h. y ≢ h.edge) (λ i within same_edge. apart i within (sym same_edge)))))
+              e (omega (arith, count, inside));
+        }

@@ -85,7 +85,7 @@ order_is st v a numbers are =
           ∙ ap (λ (ns : List ℕ). slice_get ns (suc i)) (sym are);
     }
 
-takes_is : (st : Setting) (v a : ℕ) → has_own_of st.graph st.owner v a ≡ takes_part st v a
+pub takes_is : (st : Setting) (v a : ℕ) → has_own_of st.graph st.owner v a ≡ takes_part st v a
 takes_is st v a =
     let all : size st.graph ≡ size st.graph - 0 = omega arith in
     ap (λ (n : ℕ). list_any (is_own_of st.graph st.owner v a) (range_with_len 0 n)) all ∙ found_at (is_own_of st.graph st.owner v a) 0 (size st.graph - 0)

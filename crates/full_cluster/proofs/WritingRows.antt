@@ -12,13 +12,13 @@ use Rattle.full_scope.specs.FullRows.{IsFullLink}
 use Rattle.full_cluster.specs.Inner.Rows.{AreEdgesSoFar, AreEndsSoFar, AreLinksSoFar, ComesFrom, ComesSoFar, nth_half}
 
 -- an element more at the end: those before it, and it
-before_end : {X : Type 0} (xs : List X) (y d : X) (k n : ℕ) → length xs ≡ n → k < n → slice_index_or (xs ++ y ∷ []) k d ≡ slice_index_or xs k d
+pub before_end : {X : Type 0} (xs : List X) (y d : X) (k n : ℕ) → length xs ≡ n → k < n → slice_index_or (xs ++ y ∷ []) k d ≡ slice_index_or xs k d
 before_end xs y d k n long low = get_or_append_left xs (y ∷ []) d k (omega (arith, long, low))
 
-at_end : {X : Type 0} (xs : List X) (y d : X) (k : ℕ) → length xs ≡ k → slice_index_or (xs ++ y ∷ []) k d ≡ y
+pub at_end : {X : Type 0} (xs : List X) (y d : X) (k : ℕ) → length xs ≡ k → slice_index_or (xs ++ y ∷ []) k d ≡ y
 at_end xs y d k long = ap (λ j. slice_index_or (xs ++ y ∷ []) j d) (sym long) ∙ get_or-append_seam xs y [] d
 
-longer : {X : Type 0} (xs : List X) (y : X) (n : ℕ) → length xs ≡ n → length (xs ++ y ∷ []) ≡ n + 1
+pub longer : {X : Type 0} (xs : List X) (y : X) (n : ℕ) → length xs ≡ n → length (xs ++ y ∷ []) ≡ n + 1
 longer xs y n long = omega (arith, long, length-append xs (y ∷ []))
 
 pub links_more : (g : DataGraph) (halves : List Half) (i : ℕ) (links : List FullLink) (link : FullLink) → AreLinksSoFar g halves i links → IsFullLink g link (data_half (nth_half halves i)) → AreLinksSoFar g halves (i + 1) (links ++ link ∷ [])

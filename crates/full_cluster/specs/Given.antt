@@ -1,16 +1,15 @@
 -- Numbers and tasks of a machine as lists, what is gathered of them, and what is given.
 use Rattle.std.specs.List.{All, list_any}
-use Rattle.std.specs.Prelude.{◌≡◌, ℕ, ◌<◌, ◌==◌, Bool, true, false, None, Option, Some, unwrap_or, List, [], ◌∷◌, if◌then◌else◌, length, slice_index_or}
+use Rattle.std.specs.Prelude.{◌≡◌, ℕ, ◌<◌, ◌==◌, Bool, true, false, None, Option, Some, unwrap_or, List, [], ◌∷◌, if◌then◌else◌, length, slice_index, slice_index_or}
 use Rattle.gl_base.specs.declared.numbers.EdgeNo.{EdgeNo}
 use Rattle.gl_base.specs.declared.numbers.Vertex.{Vertex}
 use Rattle.graph_core.specs.DataGraph.{size}
 use Rattle.cluster_laws.specs.cluster_core.Settings.{IsSetting, Setting, is_in_scope}
 use Rattle.full_laws.specs.FullMessages.{Gift}
 use Rattle.full_laws.specs.FullParts.{FullPart}
-use Rattle.full_laws.specs.Items.{AnEdge, AVertex, IsItem, Item, is_written, keeps, number_in}
+use Rattle.full_laws.specs.Items.{AnEdge, AVertex, IsItem, Item, keeps, number_in}
 use Rattle.full_cluster.specs.Written.{state_in}
 use Rattle.full_cluster.specs.Owners.{owner_in}
-use Rattle.seq_run.specs.States.{GraphState}
 use Rattle.full_cluster.specs.declared.divisions.Division.{Division}
 use Rattle.full_cluster.specs.declared.giving.FullGift.{FullGift}
 use Rattle.full_cluster.specs.declared.kept.KeptNumbers.{KeptNumbers}
@@ -60,16 +59,20 @@ pub record AreOfScope (st : Setting) (v : ℕ) (seen : ℕ → Option ℕ) : Typ
   pub inside : (x : ℕ) → is_in_scope st v x ≡ true → (n : ℕ) × (seen x ≡ Some n)
   pub outside : (x : ℕ) → is_in_scope st v x ≡ false → seen x ≡ None
 
+-- These are numbers of all vertices in the scope of v, and of no others. Those of vertices that machine a owns are its own.
+pub record AreGatheredAt (st : Setting) (a v : ℕ) (seen : ℕ → Option ℕ) (part : FullPart) : Type 0 where
+  pub scope : AreOfScope st v seen
+  pub own : (x n : ℕ) → st.owner x ≡ a → seen x ≡ Some n → n ≡ part.number (AVertex x)
+
 -- these are the setting's graph and its owners
 pub record IsDividedAs (st : Setting) (division : Division) : Type 0 where
   pub setting : IsSetting st
   pub graph : st.graph ≡ division.graph.now
   pub owners : st.owner ≡ owner_in division.owner.now
 
--- what an update of v writes has its number of this state in the machine's lists, whoever keeps it
-abbrev pub HasWritten : Setting → GraphState → ℕ → KeptNumbers → Type 0
-HasWritten st s v kept =
-    (i : Item) → IsItem st.graph i → is_written st v i ≡ true → number_in (state_in kept.numbers.items kept.edges.items) i ≡ number_in s i
+-- the list has each number that was gathered
+abbrev pub HasGathered : (ℕ → Option ℕ) → List ℕ → Type 0
+HasGathered seen numbers = (x : ℕ) → x < length numbers → slice_index numbers x ≡ unwrap_or (seen x) (slice_index numbers x)
 
 -- the gift's vertices and edges are of a graph with so many
 pub record IsWithin (vertex_count edge_count : ℕ) (gift : FullGift) : Type 0 where

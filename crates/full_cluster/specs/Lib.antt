@@ -9,3 +9,4 @@ pub mod FullQueues
 pub mod FullMachines
 pub mod FullClusters
 pub mod FullEvents
+pub mod Updating

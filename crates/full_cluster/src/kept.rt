@@ -1,5 +1,5 @@
 //! The numbers and the tasks that a machine keeps.
-ghost use Rattle.std.specs.Prelude.{◌≡◌, ℕ, ◌<◌, ◌==◌, ◌&&◌, ◌||◌, not, false, Option, length, slice_index, All, IfOk, OnOk, OnErr};
+ghost use Rattle.std.specs.Prelude.{◌≡◌, ◌≢◌, ℕ, ◌+◌, ◌<◌, ◌==◌, ◌&&◌, ◌||◌, not, false, if◌then◌else◌, Option, length, slice_index, All, IfOk, OnOk, OnErr};
 ghost use Rattle.gl_base.specs.declared.entries.Entry.{Entry};
 ghost use Rattle.gl_base.specs.declared.scopes.ScopeId.{ScopeId};
 ghost use Rattle.graph_core.specs.DataGraph.{size};
@@ -8,14 +8,16 @@ ghost use Rattle.seq_run.specs.Inner.Waking.{is_woken_along};
 ghost use Rattle.seq_run.specs.States.{is_woken};
 ghost use Rattle.cluster_laws.specs.cluster_core.Settings.{Setting};
 ghost use Rattle.full_scope.specs.FullStates.{after_full, full_wakes};
+ghost use Rattle.full_scope.specs.FullUpdates.{FullUpdate};
 ghost use Rattle.full_laws.specs.FullEffects.{gathers, lent_full, takes_gift, updated_full};
 ghost use Rattle.full_laws.specs.FullMessages.{Gift};
 ghost use Rattle.full_laws.specs.FullParts.{FullPart};
-ghost use Rattle.full_cluster.specs.Given.{edge_after, is_listed, is_marked, vertex_after, AreOfScope, HasNumbers, HasWritten, IsDividedAs, IsGift, IsSeenList};
+ghost use Rattle.full_cluster.specs.Given.{edge_after, is_listed, is_marked, vertex_after, AreGatheredAt, AreOfScope, HasGathered, HasNumbers, IsDividedAs, IsGift, IsSeenList};
 ghost use Rattle.full_cluster.specs.Owners.{owner_in};
+ghost use Rattle.full_cluster.specs.Inner.Making.{IsMade};
 ghost use Rattle.full_cluster.specs.Inner.Rows.{nth_half, wakes_own};
 
-use crate::updates::update_at;
+use crate::updates::{MadeUpdate, make_update, write_made};
 use crate::{Division, FullGift};
 use full_scope::FullProgram;
 use gl_base::{EdgeNo, MachineNo, NoMemory, Vertex};
@@ -60,56 +62,76 @@ impl KeptNumbers {
         mark_all(&mut self.tasks, &gift.wakes);
     }
 
-    /// Makes the update of v at its home, which owns v, and for which these numbers were gathered.
-    /// Answers whom it wakes. After `NoMemory` only the gathered numbers are written.
-    pub fn update<P: FullProgram>(
+    /// Makes the update of v at its home, machine `me`, on a copy of what it is lent: the numbers that
+    /// were gathered, and those of the edges here. What the machine keeps stays, whatever the answer.
+    pub fn make<P: FullProgram>(
         &mut self,
         alloc: Global,
         division: &Division<'_>,
         program: &P,
+        me: MachineNo,
         v: Vertex,
         seen: &[(Vertex, u64)],
-    ) -> Result<Woken, NoMemory>
+    ) -> Result<MadeUpdate, NoMemory>
+        requires vertex { v.0 < size division.now.graph.now }
+        requires count { length self.old.numbers.items ≡ size division.now.graph.now }
+        requires edge_count { length self.old.edges.items ≡ length division.now.graph.now.edges }
+        requires seen { All (λ pair. pair.0.0 < length self.old.numbers.items) seen.now }
+        ensures kept { (st : Setting) (part : FullPart) → IsDividedAs st division.now →
+            HasNumbers st me.0 self.old part → HasNumbers st me.0 self.new part }
+        ensures lent { (st : Setting) (part : FullPart) (f : ℕ → Option ℕ) →
+            IsDividedAs st division.now → st.owner v.0 ≡ me.0 →
+            HasNumbers st (st.owner v.0) self.old part → IsSeenList seen.now f →
+            AreGatheredAt st (st.owner v.0) v.0 f part →
+            HasGathered f self.new.numbers.items }
+        ensures made { (st : Setting) (part : FullPart) (f : ℕ → Option ℕ) →
+            IsDividedAs st division.now → st.owner v.0 ≡ me.0 →
+            HasNumbers st (st.owner v.0) self.old part → IsSeenList seen.now f →
+            AreGatheredAt st (st.owner v.0) v.0 f part →
+            let s = after_full st.graph (P.meaning program.now) (lent_full f part) v.0 in
+            IfOk result (λ made. IsMade st.graph s v.0 made.centre made.row.items) }
+        ensures woken { (st : Setting) (part : FullPart) (f : ℕ → Option ℕ) →
+            IsDividedAs st division.now → st.owner v.0 ≡ me.0 →
+            HasNumbers st (st.owner v.0) self.old part → IsSeenList seen.now f →
+            AreGatheredAt st (st.owner v.0) v.0 f part →
+            let p = P.meaning program.now in let lent = lent_full f part in
+            IfOk result (λ made. (u : ℕ) →
+            full_wakes st.graph p lent v.0 u ≡ is_woken made.woken (halves_of st.graph v.0) u) }
+        ensures row { let many = length (halves_of division.now.graph.now v.0) in
+            IfOk result (λ made. length made.row.items ≡ many + many) }
+        ensures numbers { length self.new.numbers.items ≡ length self.old.numbers.items }
+        ensures edges { self.new.edges ≡ self.old.edges }
+        ensures tasks { self.new.tasks ≡ self.old.tasks }
+    {
+        write_others(&mut self.numbers, division.owner, me, seen);
+        make_update(alloc, division, program, v, &self.numbers, &self.edges)
+    }
+
+    /// Writes what `make` made of the update of v at its home. It takes no memory.
+    pub fn write(&mut self, division: &Division<'_>, v: Vertex, made: &MadeUpdate)
         requires vertex { v.0 < size division.now.graph.now }
         requires count { length self.old.numbers.items ≡ size division.now.graph.now }
         requires edge_count { length self.old.edges.items ≡ length division.now.graph.now.edges }
         requires task_count { length self.old.tasks.items ≡ size division.now.graph.now }
-        requires seen { All (λ pair. pair.0.0 < length self.old.numbers.items) seen.now }
-        ensures updated { (st : Setting) (part : FullPart) (s : ScopeId) (f : ℕ →
+        requires row { let many = length (halves_of division.now.graph.now v.0) in
+            length made.now.row.items ≡ many + many }
+        ensures updated { (st : Setting) (p : FullUpdate) (part : FullPart) (s : ScopeId) (f : ℕ →
             Option ℕ) (entry : Entry) → IsDividedAs st division.now →
             let me = st.owner v.0 in HasNumbers st me self.old part →
-            IsSeenList seen.now f → AreOfScope st v.0 f →
-            let p = P.meaning program.now in let lent = lent_full f part in
-            OnOk result (HasNumbers st me self.new (updated_full st p me s v.0 lent entry part)) }
-        ensures written { (st : Setting) (part : FullPart) (f : ℕ →
-            Option ℕ) → IsDividedAs st division.now →
-            HasNumbers st (st.owner v.0) self.old part →
-            IsSeenList seen.now f → AreOfScope st v.0 f →
-            let s = after_full st.graph (P.meaning program.now) (lent_full f part) v.0 in
-            OnOk result (HasWritten st s v.0 self.new) }
-        ensures woken { (st : Setting) (part : FullPart) (f : ℕ →
-            Option ℕ) → IsDividedAs st division.now →
-            HasNumbers st (st.owner v.0) self.old part →
-            IsSeenList seen.now f → AreOfScope st v.0 f →
-            let p = P.meaning program.now in let lent = lent_full f part in
-            IfOk result (λ woken. (u : ℕ) →
-            full_wakes st.graph p lent v.0 u ≡ is_woken woken (halves_of st.graph v.0) u) }
-        ensures same_edges { OnErr result (self.new.edges.items ≡ self.old.edges.items) }
-        ensures same_tasks { OnErr result (self.new.tasks.items ≡ self.old.tasks.items) }
+            HasGathered f self.old.numbers.items → AreOfScope st v.0 f →
+            let lent = lent_full f part in let after = after_full st.graph p lent v.0 in
+            IsMade st.graph after v.0 made.now.centre made.now.row.items →
+            ((u : ℕ) → full_wakes st.graph p lent v.0 u
+            ≡ is_woken made.now.woken (halves_of st.graph v.0) u) →
+            HasNumbers st me self.new (updated_full st p me s v.0 lent entry part) }
+        ensures numbers { length self.new.numbers.items ≡ length self.old.numbers.items }
+        ensures edges { length self.new.edges.items ≡ length self.old.edges.items }
+        ensures tasks { length self.new.tasks.items ≡ length self.old.tasks.items }
     {
-        write_vertices(&mut self.numbers, seen);
-        let woken = update_at(
-            alloc,
-            division,
-            program,
-            v,
-            &mut self.numbers,
-            &mut self.edges,
-        )?;
-        let me = division.owner_of(v);
         let halves = division.graph.halves(v);
-        finish(&mut self.tasks, halves, division.owner, me, v, woken);
-        Ok(woken)
+        write_made(halves, v, made, &mut self.numbers, &mut self.edges);
+        let me = division.owner_of(v);
+        finish(&mut self.tasks, halves, division.owner, me, v, made.woken);
     }
 }
 
@@ -170,6 +192,36 @@ fn write_vertices(numbers: &mut [u64], pairs: &[(Vertex, u64)])
 {
     for pair in pairs {
         numbers[pair.0.0 as usize] = pair.1;
+    }
+}
+
+/// Writes numbers of vertices that others own, one after another.
+fn write_others(numbers: &mut [u64], owner: &[MachineNo], me: MachineNo, pairs: &[(Vertex, u64)])
+    requires low { All (λ pair. pair.0.0 < length numbers.old) pairs.now }
+    requires owners { length owner.now ≡ length numbers.old }
+    ensures count { length numbers.new ≡ length numbers.old }
+    ensures own { (x : ℕ) → x < length numbers.old → owner_in owner.now x ≡ me.0 →
+        slice_index numbers.new x ≡ slice_index numbers.old x }
+    ensures others { (x : ℕ) → x < length numbers.old → owner_in owner.now x ≢ me.0 →
+        slice_index numbers.new x ≡ vertex_after pairs.now x (slice_index numbers.old x) }
+{
+    for pair in pairs {
+        write_other(numbers, owner, me, pair.0, pair.1);
+    }
+}
+
+/// Writes the number of x, if another machine owns it.
+fn write_other(numbers: &mut [u64], owner: &[MachineNo], me: MachineNo, x: Vertex, number: u64)
+    requires low { x.0 < length numbers.old }
+    requires owners { length owner.now ≡ length numbers.old }
+    ensures count { length numbers.new ≡ length numbers.old }
+    ensures own { (y : ℕ) → y < length numbers.old → owner_in owner.now y ≡ me.0 →
+        slice_index numbers.new y ≡ slice_index numbers.old y }
+    ensures others { (y : ℕ) → y < length numbers.old → owner_in owner.now y ≢ me.0 →
+        slice_index numbers.new y ≡ (if x.0 == y then number else slice_index numbers.old y) }
+{
+    if owner[x.0 as usize].0 != me.0 {
+        numbers[x.0 as usize] = number;
     }
 }
 

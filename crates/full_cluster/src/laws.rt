@@ -16,6 +16,7 @@ ghost use Rattle.full_cluster.specs.declared.messages.FullMessage.{FullMessage};
 ghost use Rattle.full_cluster.specs.declared.queues.FullQueue.{FullQueue};
 ghost use Rattle.full_cluster.specs.FullMachines.{AreStandsWithin, AskForIt, GivesWhatItHolds, IsMachineOf, IsNextNew, IsReceivable};
 ghost use Rattle.full_cluster.specs.FullQueues.{AreQueuesOf, IsFirstIn};
+ghost use Rattle.full_cluster.specs.Updating.{IsReadyIfAny, IsUpdatable};
 ghost use Rattle.full_cluster.specs.WholeLocks.{IsFreed, IsGrantedTo, IsLockOf, IsUngrantable};
 
 /// A lock is granted just where its machine may grant it, and then is as the machine's is. If it is
@@ -68,4 +69,15 @@ pub fn coherent_machines_may_deliver()
 pub fn coherent_machines_may_admit()
     ensures { (st : Setting) (p : FullUpdate) (w : FullWorld) (m : FullMachine) →
         IsFullCoherent st p w → IsMachineOf st m (w.part m.me.0) → IsNextNew m }
+{}
+
+/// In a coherent cluster a scope that is ready at its home has the numbers of its vertices, and holds
+/// no locks there but theirs, as `update` supposes. All vertices that it names are there, as
+/// `update` requires.
+pub fn coherent_machines_may_update()
+    ensures ready { (st : Setting) (p : FullUpdate) (w : FullWorld) → IsFullCoherent st p w →
+        (s : ScopeId) → IsReadyIfAny st s.home.0 s (w.part s.home.0) }
+    ensures updatable { (st : Setting) (p : FullUpdate) (w : FullWorld) (m : FullMachine)
+        (s : ScopeId) → IsSetting st → IsFullCoherent st p w →
+        IsMachineOf st m (w.part m.me.0) → s.home ≡ m.me → IsUpdatable m s (size st.graph) }
 {}

@@ -7,6 +7,7 @@ mod arriving;
 mod clusters;
 mod divisions;
 mod events;
+mod gifts;
 mod giving;
 mod granting;
 mod kept;
@@ -20,6 +21,7 @@ mod rows;
 mod scope_maps;
 mod sending;
 mod updates;
+mod updating;
 mod ways;
 
 pub use admitting::FullTerms;
@@ -30,7 +32,7 @@ pub use giving::FullGift;
 pub use kept::KeptNumbers;
 pub use laws::{
     coherent_machines_may_admit, coherent_machines_may_deliver, coherent_machines_may_grant,
-    coherent_machines_may_receive, whole_locks_are_a_machines,
+    coherent_machines_may_receive, coherent_machines_may_update, whole_locks_are_a_machines,
 };
 pub use lock_rows::WholeLocks;
 pub use locks::WholeLock;
@@ -39,4 +41,5 @@ pub use messages::FullMessage;
 pub use queues::{FullQueue, FullQueues};
 pub use scope_maps::ScopeMap;
 pub use sending::send;
-pub use updates::update_at;
+pub use updates::{MadeUpdate, update_at};
+pub use updating::FullTickets;

@@ -1,5 +1,5 @@
 //! Messages on their way.
-ghost use Rattle.std.specs.Prelude.{◌≡◌, ℕ, ◌<◌, ◌++◌, ◌∷◌, [], List, true, false, None, Some, length, slice_get, OnOk, OnErr, IfOk, IfSome};
+ghost use Rattle.std.specs.Prelude.{◌≡◌, ◌≢◌, ℕ, ◌<◌, ◌++◌, ◌∷◌, [], List, true, false, None, Some, length, slice_get, OnOk, OnErr, IfOk, IfSome};
 ghost use Rattle.gl_base.specs.scope_lists.Scopes.{set_at};
 ghost use Rattle.cluster_laws.specs.cluster_core.Settings.{Setting};
 ghost use Rattle.full_laws.specs.FullActions.{HasFirstFull};
@@ -141,6 +141,8 @@ impl FullQueues {
         requires inside { to.0 < length self.old.queues.items }
         requires room { HasRoomFor self.old.queues.items to.0 }
         ensures count { length self.new.queues.items ≡ length self.old.queues.items }
+        ensures kept { (q : ℕ) → q ≢ to.0 → HasRoomFor self.old.queues.items q →
+            HasRoomFor self.new.queues.items q }
         ensures put { (st : Setting) (out : ℕ → List ModelMessage) (m : ModelMessage) →
             AreQueuesOf st self.old.queues.items out → IsMessage st message m →
             AreQueuesOf st self.new.queues.items (set_at out to.0 (out to.0 ++ m ∷ [])) }

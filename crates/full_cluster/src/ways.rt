@@ -48,6 +48,24 @@ impl Division<'_> {
     {
         machines_of(alloc, self.graph, self.owner, v, machines)
     }
+
+    /// A mark for each machine: it is set where the machine owns a vertex in the scope of v. The
+    /// owners are below `machines`.
+    pub(crate) fn machine_marks(
+        &self,
+        alloc: Global,
+        v: Vertex,
+        machines: u16,
+    ) -> Result<Vec<bool>, NoMemory>
+        requires vertex { v.0 < size self.now.graph.now }
+        requires low { All (λ m. m.0 < machines) self.now.owner.now }
+        ensures count { IfOk result (λ marks. length marks.items ≡ machines) }
+        ensures marked { IfOk result (λ marks. (a : ℕ) → a < machines →
+            slice_index_or marks.items a false
+            ≡ has_own_of self.now.graph.now (owner_in self.now.owner.now) v.0 a) }
+    {
+        marks_of(alloc, self.graph, self.owner, v, machines)
+    }
 }
 
 /// The vertices of a machine in the scope of v, ascending.
@@ -129,11 +147,29 @@ fn machines_of(
     ensures { IfOk result (λ list. map (λ m. m.0) list.items
         ≡ passing (has_own_of graph.now (owner_in owner.now) v.0) 0 machines) }
 {
+    let marks = marks_of(alloc, graph, owner, v, machines)?;
+    list_marked(alloc, &marks)
+}
+
+/// Marks for so many machines: each that owns a vertex in the scope of v is marked.
+fn marks_of(
+    alloc: Global,
+    graph: &Graph,
+    owner: &[MachineNo],
+    v: Vertex,
+    machines: u16,
+) -> Result<Vec<bool>, NoMemory>
+    requires vertex { v.0 < size graph.now }
+    requires owners { length owner.now ≡ size graph.now }
+    requires low { All (λ m. m.0 < machines) owner.now }
+    ensures count { IfOk result (λ marks. length marks.items ≡ machines) }
+    ensures marked { IfOk result (λ marks. (a : ℕ) → a < machines → slice_index_or marks.items a false
+        ≡ has_own_of graph.now (owner_in owner.now) v.0 a) }
+{
     let mut near = Vec::new(alloc);
     graph.list_neighbours(v, &mut near)?;
     near.push(v)?;
-    let marks = owner_marks(alloc, owner, &near, machines)?;
-    list_marked(alloc, &marks)
+    owner_marks(alloc, owner, &near, machines)
 }
 
 /// Marks for so many machines: each that owns one of these vertices is marked.

@@ -1,15 +1,22 @@
-use Rattle.full_cluster.proofs.UpdateLemmas.{edges_low, ends_low, lead}
-use Rattle.std.proofs.Common.{refl}
+use Rattle.full_cluster.proofs.UpdateLemmas.{edges_left, edges_low, ends_low, numbers_left, row_long}
 use Rattle.full_cluster.proofs.updates.update_at.Goals as goal
 
-pub links_of-requires-clause-ends : goal.links_of-requires-clause-ends
-links_of-requires-clause-ends g c = λ i low. ends_low c.args.division.now.graph.now c.args.division.now.built c.args.v.0 c.halves-halves.result.now c.halves-halves.ensures _ i refl low
+pub write_made-requires-clause-ends : goal.write_made-requires-clause-ends
+write_made-requires-clause-ends g c = λ i low. ends_low c.args.division.now.graph.now c.args.division.now.built c.args.v.0 c.halves.result.now c.halves.ensures _ i c.requires.count low
 
-pub links_of-requires-clause-lead : goal.links_of-requires-clause-lead
-links_of-requires-clause-lead g c = lead c.args.division.now.graph.now c.args.division.now.built c.args.v.0 c.halves-halves.result.now c.halves-halves.ensures
+pub write_made-requires-clause-edges : goal.write_made-requires-clause-edges
+write_made-requires-clause-edges g c = λ i low. edges_low c.args.division.now.graph.now c.args.division.now.built c.args.v.0 c.halves.result.now c.halves.ensures _ i c.requires.edge_count low
 
-pub row_along-requires-clause-ends : goal.row_along-requires-clause-ends
-row_along-requires-clause-ends g c = λ i low. ends_low c.args.division.now.graph.now c.args.division.now.built c.args.v.0 c.halves-halves.result.now c.halves-halves.ensures _ i c.requires.count low
+pub write_made-requires-clause-row : goal.write_made-requires-clause-row
+write_made-requires-clause-row g c =
+    row_long c.args.division.now.graph.now c.args.division.now.built c.args.v.0 c.halves.result.now c.halves.ensures (g.P.FullProgram.meaning c.args.program.now) c.args.numbers.now c.args.edges.now c.requires.vertex c.in_ok-made.made.centre c.in_ok-made.made.row.items c.in_ok-made.ensures.made
 
-pub row_along-requires-clause-edges : goal.row_along-requires-clause-edges
-row_along-requires-clause-edges g c = λ i low. edges_low c.args.division.now.graph.now c.args.division.now.built c.args.v.0 c.halves-halves.result.now c.halves-halves.ensures _ i c.requires.edge_count low
+pub returns-clause-numbers : goal.returns-clause-numbers
+returns-clause-numbers g c =
+    numbers_left c.args.division.now.graph.now c.args.division.now.built c.args.v.0 c.halves.result.now c.halves.ensures (g.P.FullProgram.meaning c.args.program.now) c.args.numbers.now c.args.edges.now c.requires.vertex c.in_ok-made.made.centre c.in_ok-made.made.row.items c.in_ok-made.ensures.made
+    c.write_made.new.numbers c.requires.count c.write_made.ensures.count c.write_made.ensures.numbers
+
+pub returns-clause-edges : goal.returns-clause-edges
+returns-clause-edges g c =
+    edges_left c.args.division.now.graph.now c.args.division.now.built c.args.v.0 c.halves.result.now c.halves.ensures (g.P.FullProgram.meaning c.args.program.now) c.args.numbers.now c.args.edges.now c.requires.vertex c.in_ok-made.made.centre c.in_ok-made.made.row.items c.in_ok-made.ensures.made
+    c.write_made.new.edges c.requires.edge_count c.write_made.ensures.edge_count c.write_made.ensures.edges
