@@ -44,7 +44,7 @@ pub fn run_nodes<R: Threads + Wait + Sync, M: EagerMachine + Send + Sync>(
         trace.remember();
         return Ok(trace);
     }
-    let attempt = Attempt::open(alloc, trace)?;
+    let attempt = Attempt::open(alloc, trace, None)?;
     let attempt = run_attempt(rt, alloc, attempt)?;
     attempt.joined(alloc)
 }
@@ -87,6 +87,7 @@ fn run_attempt<R: Threads + Wait + Sync, M: EagerMachine + Send + Sync>(
 {
     let Attempt {
         trace,
+        opened,
         failed,
         board,
         place,
@@ -105,6 +106,7 @@ fn run_attempt<R: Threads + Wait + Sync, M: EagerMachine + Send + Sync>(
     let members = board.gather_each(alloc, &mut place, nodes, peers)?;
     Ok(Attempt {
         trace,
+        opened,
         failed,
         board,
         place,

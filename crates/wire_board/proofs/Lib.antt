@@ -18,3 +18,4 @@ pub mod Sighting
 pub mod Acting
 pub mod Directings
 pub mod Steppings
+pub mod Receiving

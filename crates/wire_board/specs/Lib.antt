@@ -12,3 +12,4 @@ pub mod Acts
 pub mod Halts
 pub mod Directing
 pub mod Stepping
+pub mod Receipts

@@ -6,9 +6,11 @@ ghost use Rattle.cluster_step.specs.trace.Traces.{IsSameAttempt, TraceGoesOn};
 ghost use Rattle.link_tables.specs.Seats.{Rests};
 ghost use Rattle.wire_board.specs.Attempts.{AreAwake, AreNumbered, IsBoardOf, numbered_members, resting};
 ghost use Rattle.wire_board.specs.Led.{Lead};
+ghost use Rattle.wire_board.specs.Receipts.{AreLengthsOf, IsReceipt, entries_in};
 ghost use Rattle.wire_board.specs.Stepping.{machines_of};
 
 use crate::boards::{About, Board};
+use crate::receipts::{Opened, Receipt};
 use crate::standings::{Leading, Member, Seated};
 use cluster_step::clusters::{Link, Links, Parts, SavingMachine};
 use cluster_step::trace::{OpenTrace, Trace};
@@ -20,11 +22,13 @@ use std::snapshot::Snapshot;
 /// The first number of machines that is too much for a board.
 pub const TOO_MANY: usize = 4095;
 
-/// A trace whose cluster is on a board: what stays of the trace, which machines have failed, the
-/// board, a place that has all parts, the coordinator, and the machines.
+/// A trace whose cluster is on a board: what stays of the trace, what its receipt is made from,
+/// which machines have failed, the board, a place that has all parts, the coordinator, and the
+/// machines.
 #[derive(Drop)]
 pub struct Attempt<M: SavingMachine> {
     pub trace: OpenTrace<M>,
+    pub opened: Opened,
     pub failed: Vec<bool>,
     pub board: Board<M>,
     pub place: Place<Seated<M>, Link>,
@@ -33,13 +37,20 @@ pub struct Attempt<M: SavingMachine> {
 }
 
 impl<M: SavingMachine> Attempt<M> {
-    /// Takes the cluster of a trace onto a board. One place has all parts. `NoMemory` drops the
-    /// trace.
-    pub fn open(alloc: Global, trace: Trace<M>) -> Result<Attempt<M>, NoMemory>
+    /// Takes the cluster of a trace onto a board, with the receipt of the same attempt so far, if
+    /// there is one. One place has all parts. `NoMemory` drops the trace.
+    pub fn open(
+        alloc: Global,
+        trace: Trace<M>,
+        so_far: Option<Receipt>,
+    ) -> Result<Attempt<M>, NoMemory>
         requires awake { AreAwake trace.now.failed.items }
         requires runs { trace.now.stopped ≡ false }
         requires few { length trace.now.machines.items < 4095 }
         ensures trace { IfOk result (λ a. a.trace ≡ apart_now trace) }
+        ensures so_far { IfOk result (λ a. a.opened.so_far ≡ so_far) }
+        ensures lengths { IfOk result (λ a.
+            AreLengthsOf M.represents a.trace a.opened.lengths.items) }
         ensures board { IfOk result (λ a. IsBoardOf M.represents a.trace a.failed.items
             a.board.table.table.shared.key.about.machines
             a.board.table.table.shared.key.about.failures.value.items
@@ -57,6 +68,7 @@ impl<M: SavingMachine> Attempt<M> {
             numbered_members (suc (length trace.now.machines.items)) 0
             trace.now.machines.items) }
     {
+        let opened = Opened::of(alloc, &trace, so_far)?;
         let (trace, parts) = trace.apart();
         let about = About {
             machines: parts.machines.len(),
@@ -64,13 +76,14 @@ impl<M: SavingMachine> Attempt<M> {
             done: Snapshot::of(trace.done()),
             opening: Snapshot::of(&parts),
         };
-        Attempt::on_board(alloc, trace, parts, about)
+        Attempt::on_board(alloc, trace, opened, parts, about)
     }
 
     /// Takes these parts of a cluster onto a board.
     fn on_board(
         alloc: Global,
         trace: OpenTrace<M>,
+        opened: Opened,
         parts: Parts<M>,
         about: About<M>,
     ) -> Result<Attempt<M>, NoMemory>
@@ -83,6 +96,7 @@ impl<M: SavingMachine> Attempt<M> {
         requires runs { trace.now.stopped ≡ false }
         requires few { length trace.now.machines.items < 4095 }
         ensures trace { IfOk result (λ a. a.trace ≡ trace) }
+        ensures opened { IfOk result (λ a. a.opened ≡ opened) }
         ensures board { IfOk result (λ a. IsBoardOf M.represents trace a.failed.items
             a.board.table.table.shared.key.about.machines
             a.board.table.table.shared.key.about.failures.value.items
@@ -115,6 +129,7 @@ impl<M: SavingMachine> Attempt<M> {
         let (board, place) = Board::new(alloc, list, next, left, about)?;
         Ok(Attempt {
             trace,
+            opened,
             failed,
             board,
             place,
@@ -148,8 +163,69 @@ impl<M: SavingMachine> Attempt<M> {
         ensures same { IfOk result (λ t. IsSameAttempt (record self.trace { since = t.now }) t) }
         ensures goes_on { IfOk result (λ t. TraceGoesOn M.represents self.trace t) }
     {
+        let (trace, opened) = self.off_board(alloc)?;
+        drop(opened);
+        Ok(trace)
+    }
+
+    /// Takes the cluster off the board again, as `joined` does, and closes the board with a
+    /// receipt: its entries are those of the receipt that the board was opened with, if any, and
+    /// behind them the updates that were made on the board, by ticket. `NoMemory` drops all.
+    pub fn closed(self, alloc: Global) -> Result<(Trace<M>, Receipt), NoMemory>
+        requires board { IsBoardOf M.represents self.trace self.failed.items
+            self.board.table.table.shared.key.about.machines
+            self.board.table.table.shared.key.about.failures.value.items
+            self.board.table.table.shared.key.about.done.value.items
+            self.board.table.table.shared.key.about.opening.value
+            self.board.table.many self.board.table.top }
+        requires table { self.place.seat.table_id ≡ self.board.table.table.shared.table_id }
+        requires place { Rests self.place.seat.me (Lead self.lead) (resting self.members.items) }
+        requires lead { self.lead.number ≡ length self.trace.now.machines.items }
+        requires many { length self.members.items ≡ length self.trace.now.machines.items }
+        requires numbers { AreNumbered (suc (length self.trace.now.machines.items)) 0
+            self.members.items }
+        requires lengths { AreLengthsOf M.represents self.trace self.opened.lengths.items }
+        ensures since { IfOk result (λ t. t.0.since ≡ t.0.now) }
+        ensures now { IfOk result (λ t.
+            (t.0.now.machines.items ≡ machines_of self.members.items) ×
+            (t.0.now.coordinator ≡ self.lead.coordinator)) }
+        ensures same { IfOk result (λ t.
+            IsSameAttempt (record self.trace { since = t.0.now }) t.0) }
+        ensures goes_on { IfOk result (λ t. TraceGoesOn M.represents self.trace t.0) }
+        ensures receipt { IfOk result (λ t. IsReceipt M.represents self.trace t.0
+            (entries_in self.opened.so_far) t.1) }
+    {
+        let (trace, opened) = self.off_board(alloc)?;
+        let receipt = opened.closed(alloc, &trace)?;
+        Ok((trace, receipt))
+    }
+
+    /// Takes the cluster off the board again. What the receipt is made from comes with the trace.
+    fn off_board(self, alloc: Global) -> Result<(Trace<M>, Opened), NoMemory>
+        requires board { IsBoardOf M.represents self.trace self.failed.items
+            self.board.table.table.shared.key.about.machines
+            self.board.table.table.shared.key.about.failures.value.items
+            self.board.table.table.shared.key.about.done.value.items
+            self.board.table.table.shared.key.about.opening.value
+            self.board.table.many self.board.table.top }
+        requires table { self.place.seat.table_id ≡ self.board.table.table.shared.table_id }
+        requires place { Rests self.place.seat.me (Lead self.lead) (resting self.members.items) }
+        requires lead { self.lead.number ≡ length self.trace.now.machines.items }
+        requires many { length self.members.items ≡ length self.trace.now.machines.items }
+        requires numbers { AreNumbered (suc (length self.trace.now.machines.items)) 0
+            self.members.items }
+        ensures since { IfOk result (λ t. t.0.since ≡ t.0.now) }
+        ensures now { IfOk result (λ t.
+            (t.0.now.machines.items ≡ machines_of self.members.items) ×
+            (t.0.now.coordinator ≡ self.lead.coordinator)) }
+        ensures same { IfOk result (λ t.
+            IsSameAttempt (record self.trace { since = t.0.now }) t.0) }
+        ensures goes_on { IfOk result (λ t. TraceGoesOn M.represents self.trace t.0) }
+        ensures opened { IfOk result (λ t. t.1 ≡ self.opened) }
+    {
         let Attempt {
             trace,
+            opened,
             failed,
             board,
             place,
@@ -169,7 +245,7 @@ impl<M: SavingMachine> Attempt<M> {
             left: top - next,
             stopped: false,
         };
-        Ok(trace.joined(parts))
+        Ok((trace.joined(parts), opened))
     }
 }
 

@@ -4,11 +4,13 @@ ghost use Rattle.cluster_step.specs.trace.Traces.{IsSameAttempt, TraceGoesOn};
 ghost use Rattle.link_tables.specs.Seats.{Rests};
 ghost use Rattle.wire_board.specs.Attempts.{AllFrom, AreNumbered, IsBoardOf, IsSeatOf, resting};
 ghost use Rattle.wire_board.specs.Led.{Lead};
+ghost use Rattle.wire_board.specs.Receipts.{IsReceipt, entries_in};
 ghost use Rattle.wire_board.specs.Seats.{Leads, Sits};
 
 use crate::attempts::{Attempt, TOO_MANY};
 use crate::boards::Board;
 use crate::directing::Directed;
+use crate::receipts::Receipt;
 use crate::seats::{CoordSeat, NodeSeat};
 use crate::turns::Worked;
 use cluster_step::trace::Trace;
@@ -18,24 +20,29 @@ use std::alloc::Global;
 
 /// Plays the cluster of a trace on a board, on this thread, for so many rounds at most: until a
 /// machine has reached the count of a failure, no ticket is left, a record is due, the end, or
-/// nothing moves. Where a machine has failed, the run has ended or there are too many machines,
-/// nothing happens. `NoMemory` drops the trace.
+/// nothing moves. The board is opened with the receipt of the same attempt so far, if there is one,
+/// and leaves its own. Where a machine has failed, the run has ended or there are too many machines,
+/// nothing happens, and the receipt comes back. `NoMemory` drops all.
 pub fn play_on_board<M: EagerMachine>(
     alloc: Global,
     trace: Trace<M>,
+    so_far: Option<Receipt>,
     rounds: u32,
-) -> Result<Trace<M>, NoMemory>
-    ensures same { IfOk result (λ t. IsSameAttempt (record trace { since = t.now }) t) }
-    ensures goes_on { IfOk result (λ t. TraceGoesOn M.represents trace t) }
+) -> Result<(Trace<M>, Option<Receipt>), NoMemory>
+    ensures same { IfOk result (λ t. IsSameAttempt (record trace { since = t.0.now }) t.0) }
+    ensures goes_on { IfOk result (λ t. TraceGoesOn M.represents trace t.0) }
+    ensures receipt { IfOk result (λ t.
+        IsReceipt M.represents trace t.0 (entries_in so_far) (entries_in t.1)) }
 {
     if trace.is_stopped() || !trace.are_all_awake() || trace.machines() >= TOO_MANY {
         let mut trace = trace;
         trace.remember();
-        return Ok(trace);
+        return Ok((trace, so_far));
     }
-    let attempt = Attempt::open(alloc, trace)?;
+    let attempt = Attempt::open(alloc, trace, so_far)?;
     let attempt = attempt.played(alloc, rounds)?;
-    attempt.joined(alloc)
+    let (trace, receipt) = attempt.closed(alloc)?;
+    Ok((trace, Some(receipt)))
 }
 
 impl<M: EagerMachine> Attempt<M> {
@@ -55,6 +62,7 @@ impl<M: EagerMachine> Attempt<M> {
         requires numbers { AreNumbered (suc (length self.trace.now.machines.items)) 0
             self.members.items }
         ensures trace { IfOk result (λ a. a.trace ≡ self.trace) }
+        ensures opened { IfOk result (λ a. a.opened ≡ self.opened) }
         ensures board { IfOk result (λ a. IsBoardOf M.represents self.trace a.failed.items
             a.board.table.table.shared.key.about.machines
             a.board.table.table.shared.key.about.failures.value.items
@@ -73,6 +81,7 @@ impl<M: EagerMachine> Attempt<M> {
     {
         let Attempt {
             trace,
+            opened,
             failed,
             board,
             place,
@@ -91,6 +100,7 @@ impl<M: EagerMachine> Attempt<M> {
         let members = board.gather_each(alloc, &mut place, seats, peers)?;
         Ok(Attempt {
             trace,
+            opened,
             failed,
             board,
             place,

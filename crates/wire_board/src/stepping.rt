@@ -73,7 +73,7 @@ pub fn step_on_board<M: EagerMachine>(
         trace.remember();
         return Ok((trace, false));
     }
-    let attempt = Attempt::open(alloc, trace)?;
+    let attempt = Attempt::open(alloc, trace, None)?;
     let (attempt, moved) = attempt.stepped(alloc, steps)?;
     let trace = attempt.joined(alloc)?;
     Ok((trace, moved))
@@ -118,6 +118,7 @@ impl<M: EagerMachine> Attempt<M> {
     {
         let Attempt {
             trace,
+            opened,
             failed,
             board,
             place,
@@ -136,6 +137,7 @@ impl<M: EagerMachine> Attempt<M> {
         let members = board.gather_each(alloc, &mut place, seats, peers)?;
         let attempt = Attempt {
             trace,
+            opened,
             failed,
             board,
             place,

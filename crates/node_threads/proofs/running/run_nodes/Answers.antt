@@ -1,4 +1,6 @@
 use Rattle.std.proofs.Common.{ap, length, subst, suc, sym, ◌∙◌, ℕ}
+use Rattle.std.specs.Prelude.{IfOk}
+use Rattle.cluster_step.specs.trace.Traces.{IsSameAttempt, TraceView}
 use Rattle.wire_board.proofs.Attempting.{goes_nowhere, goes_ok, length_members, members_numbered}
 use Rattle.wire_board.specs.Attempts.{AreNumbered}
 use Rattle.node_threads.proofs.running.run_nodes.Goals as goal
@@ -19,3 +21,7 @@ run_attempt-requires-clause-numbers g c κs within =
 
 pub returns-clause-goes_on : goal.returns-clause-goes_on
 returns-clause-goes_on g c = goes_ok g.M.SavingMachine.represents c.args.trace c.in_ok-attempt-2.attempt.trace c.joined.result (c.in_ok-attempt-2.ensures.trace ∙ c.in_ok-attempt.ensures.trace) c.joined.ensures.goes_on
+
+pub returns-clause-same : goal.returns-clause-same
+returns-clause-same g c =
+    subst (λ (x : TraceView g.row.M.Denot). IfOk c.joined.result (λ t. IsSameAttempt (record x { since = t.now }) t)) (c.in_ok-attempt-2.ensures.trace ∙ c.in_ok-attempt.ensures.trace) c.joined.ensures.same

@@ -3,7 +3,7 @@ use Rattle.std.proofs.lemmas.List.{length-map}
 use Rattle.cluster_step.specs.trace.Traces.{IsSameAttempt}
 use Rattle.wire_board.proofs.Attempting.{all_parts, goes_back_in, goes_on, later_on, stands_on}
 use Rattle.wire_board.specs.Attempts.{Member, Parts}
-use Rattle.wire_board.proofs.attempts.Attempt.joined.Goals as goal
+use Rattle.wire_board.proofs.attempts.Attempt.off_board.Goals as goal
 
 pub close-list-requires-clause-all : goal.close-list-requires-clause-all
 close-list-requires-clause-all g c =
