@@ -13,7 +13,7 @@ use crate::scenes::{Kept, first_kept};
 use crate::trouble::Trouble;
 use cluster_step::drive::{Pause, drive};
 use cluster_step::trace::{Event, Local, SavingMachine, Trace};
-use gl_base::{Base, FailureAt, MachineNo, Refused};
+use gl_base::{Base, Entry, FailureAt, MachineNo, Refused};
 use node_threads::run_nodes;
 use recovery::restarts::{base_behind, count_failed};
 use scenario_lines::{Line, Page, is_remark};
@@ -26,7 +26,10 @@ use wire_board::play_on_board;
 /// As often as a call may pause.
 const MOST_PAUSES: u32 = 1000000;
 
-/// As many rounds as are played on a board.
+/// As many rounds as are played on a first board.
+const FIRST_ROUNDS: u32 = 2;
+
+/// As many rounds as are played on the board behind it, at most.
 const MOST_ROUNDS: u32 = 1000000;
 
 /// A call, with the store beside it, how often machines went back, and why it paused last.
@@ -131,12 +134,52 @@ fn opened_trace<P: Program>(
     if !beginning.is_on_board {
         return outcome;
     }
-    let trace = play_on_board(alloc, outcome?, MOST_ROUNDS)?;
-    if trace.next() == 0 {
-        drop(trace);
-        return Err(Trouble::Because("no update is made on the board"));
+    let (trace, so_far) = play_on_board(alloc, outcome?, None, FIRST_ROUNDS)?;
+    let (trace, receipt) = play_on_board(alloc, trace, so_far, MOST_ROUNDS)?;
+    let entries = match &receipt {
+        Some(receipt) => receipt.entries(),
+        None => &[],
+    };
+    let trouble = if entries.is_empty() {
+        Some("no update is made on the board")
+    } else if !are_made(&trace, entries) {
+        Some("the receipt has not the updates that were made")
+    } else {
+        None
+    };
+    drop(receipt);
+    match trouble {
+        Some(why) => {
+            drop(trace);
+            Err(Trouble::Because(why))
+        }
+        None => Ok(trace),
     }
-    Ok(trace)
+}
+
+/// Whether these are all updates that the machines have made in this attempt, by ticket.
+fn are_made<M: SavingMachine>(trace: &Trace<M>, entries: &[Entry]) -> bool {
+    let first = trace.next().saturating_sub(entries.len() as u64);
+    let mut made = 0usize;
+    for m in 0..trace.machines() {
+        let log = trace.log(MachineNo(m as u16));
+        if !log.iter().all(|entry| is_in_place(*entry, first, entries)) {
+            return false;
+        }
+        made = made.saturating_add(log.len());
+    }
+    made == entries.len()
+}
+
+/// Whether the update stands where its ticket says, in entries whose first has this ticket.
+fn is_in_place(entry: Entry, first: u64, entries: &[Entry]) -> bool {
+    match entry {
+        Entry::Go { ticket, .. } => {
+            let place = ticket.saturating_sub(first) as usize;
+            place < entries.len() && entries[place] == entry
+        }
+        Entry::Restart { .. } => false,
+    }
 }
 
 /// Goes on from pause to pause until the call has ended, or its budget is spent.
