@@ -1,11 +1,12 @@
 -- Events of a seat, one call after another.
 use Rattle.std.proofs.Common.{List, [], false, inl, map, refl, subst, sym, true, ◌*◌, ◌++◌, ◌∷◌, ◌≡◌, ◌≢◌, ◌⊎◌, ⊎_elim, ℕ}
 use Rattle.std.specs.Prelude.{Bool, Err, IfOk, IsErr, IsOk, Ok, OnErr, OnOk, Result}
+use Rattle.coordinator.specs.machine_api.InTurn.{HasGrantedInTurn}
 use Rattle.coordinator.specs.machine_api.Promises.{Deed, HasAdmittedSome, HasDone, HasHeard, IsReporting, MayHearCall, OfEach, StandsStill}
 use Rattle.coordinator.specs.machine_api.Told.{message_read}
 use Rattle.link_tables.proofs.Seeing.{sees_same, sees_then}
 use Rattle.wire.specs.declared.wire_msgs.messages.Message.{Message}
-use Rattle.wire_board.specs.Acts.{Act, Admits, AreMade, Does, HasMadeOne, HasMoved, HasMovedIf, Hears, HearsCall, IsMade, LinkView, Machine, MessageView, MovesAlone, Reports, Sat, Seated, Setting, Tells}
+use Rattle.wire_board.specs.Acts.{Act, Admits, AreMade, Does, GrantsInTurn, HasMadeOne, HasMoved, HasMovedIf, Hears, HearsCall, IsMade, LinkView, Machine, MessageView, MovesAlone, Reports, Sat, Seated, Setting, Tells}
 use Rattle.wire_board.specs.Hearing.{CanHear, HasHeardAll, HasToldAll}
 use Rattle.wire_board.specs.Led.{link_no}
 use Rattle.wire_board.specs.Sights.{HadQueue, Sees}
@@ -98,6 +99,15 @@ module _ {M : Type 0} (represents : Setting → ℕ → Machine → M → Type 0
   alone_did x y z d own still (Ok t) done same false ok err many peers a me = (let bad = err refl in absurd (cc))
   alone_did x y z d own still (Err e) done same true ok err many peers a me = (let bad = ok refl in absurd (cc))
   alone_did x y z d own still (Err e) done same false ok err many peers a me = alone_none x z (still_then x y z still same) many peers a me
+
+  pub alone_granted : {X E : Type 0} (x y z : M) (v : ℕ) → StandsStill represents x y → (r : Result X E) → OnOk r (HasGrantedInTurn represents y v z) → OnErr r (StandsStill represents y z)
+      → (some : Bool) → (some ≡ true → IsOk r) → (some ≡ false → IsErr r) → MovesAlone represents x z some
+  alone_granted x y z v still (Ok t) done same true ok err many peers a me =
+      let made : AreMade represents many peers a (GrantsInTurn v ∷ []) y me z me = one_made many peers a (GrantsInTurn v) y z me me (done, sees_same me me refl) in
+      (GrantsInTurn v ∷ [], then_made many peers a (GrantsInTurn v ∷ []) x y z me me me still (sees_same me me refl) made, λ e f. cc, λ e. cc)
+  alone_granted x y z v still (Ok t) done same false ok err many peers a me = (let bad = err refl in absurd (cc))
+  alone_granted x y z v still (Err e) done same true ok err many peers a me = (let bad = ok refl in absurd (cc))
+  alone_granted x y z v still (Err e) done same false ok err many peers a me = alone_none x z (still_then x y z still same) many peers a me
 
   pub alone_tried : {X E : Type 0} (x y : M) → (r : Result X E) → OnOk r (HasAdmittedSome represents x y) → OnErr r (StandsStill represents x y)
       → (some : Bool) → (some ≡ true → IsOk r) → (some ≡ false → IsErr r) → MovesAlone represents x y some

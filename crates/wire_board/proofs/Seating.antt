@@ -1,10 +1,11 @@
 -- What a seat's machine has come to since its last step.
-use Rattle.std.proofs.Common.{List, [], refl, subst, sym, ◌++◌, ◌∙◌, ◌∷◌, ◌≡◌, ℕ}
+use Rattle.std.proofs.Common.{List, [], map, refl, subst, sym, ◌++◌, ◌∙◌, ◌∷◌, ◌≡◌, ℕ}
 use Rattle.std.specs.List.{AllByRecursion}
 use Rattle.gl_base.specs.declared.numbers.Vertex.{Vertex}
 use Rattle.gl_base.specs.declared.scopes.ScopeId.{ScopeId}
 use Rattle.coordinator.specs.machine_api.AtOnce.{AreDone, HasUpdatedAtOnce, deeds_at_once}
-use Rattle.coordinator.specs.machine_api.Promises.{Admit, Deed, HasAdmittedSome, HasDone, StandsStill, does}
+use Rattle.coordinator.specs.machine_api.InTurn.{HasGrantedInTurn}
+use Rattle.coordinator.specs.machine_api.Promises.{Admit, Deed, Grant, HasAdmittedSome, HasDone, StandsStill, does}
 use Rattle.coordinator.specs.machine_api.Promises as deed
 use Rattle.wire_board.specs.Standings.{ComesOn, WorksTo, HasComeTo, IsOwn, Machine, Member, Setting, Standing, at_rest, owing, owing_at_once}
 
@@ -74,6 +75,15 @@ module _ {M : Type 0} (represents : Setting → ℕ → Machine → M → Type 0
   on_done x y d own has st a m setting here =
       let one = has st a m setting here in
       record { deeds = d ∷ []; own = (own, tt); after = does st a d m; done = (one.0, refl); here = one.1 }
+
+  grants_own : (locks : List ℕ) → AllByRecursion IsOwn (map Grant locks)
+  grants_own [] = tt
+  grants_own (v ∷ locks) = (tt, grants_own locks)
+
+  pub on_granted : (x y : M) (v : ℕ) → HasGrantedInTurn represents x v y → ComesOn represents x y
+  on_granted x y v has st a m setting here =
+      let one = has.1 st a m setting here in
+      record { deeds = map Grant (v ∷ has.0); own = grants_own (v ∷ has.0); after = one.after; done = one.done; here = one.here }
 
   pub on_admitted : (x y : M) → HasAdmittedSome represents x y → ComesOn represents x y
   on_admitted x y has st a m setting here =

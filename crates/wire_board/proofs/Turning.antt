@@ -2,11 +2,12 @@
 use Rattle.std.proofs.Common.{List, None, Option, Some, [], false, length, suc, sym, ◌+◌, ◌∙◌, ◌<◌, ◌≤◌, ◌≡◌, ℕ, IfNone, IfSome}
 use Rattle.std.specs.Prelude.{Err, Ok, OnErr, OnOk, Result, slice_index_or}
 use Rattle.call_laws.specs.whole_calls.Following.{reaches}
+use Rattle.coordinator.specs.machine_api.InTurn.{HasGrantedInTurn}
 use Rattle.coordinator.specs.machine_api.Promises.{Deed, HasAdmittedSome, HasDone, OfEach, StandsStill}
 use Rattle.link_tables.proofs.Standing.{rests_raised}
 use Rattle.link_tables.specs.Seats.{Sat, saw, view}
 use Rattle.wire_board.proofs.Places.{sits_read}
-use Rattle.wire_board.proofs.Seating.{come_on, on_admitted, on_done, on_still, on_then}
+use Rattle.wire_board.proofs.Seating.{come_on, on_admitted, on_done, on_granted, on_still, on_then}
 use Rattle.wire_board.specs.Freeing.{IsFree}
 use Rattle.wire_board.specs.Going.{FailureAt}
 use Rattle.wire_board.specs.Seats.{Lead, Leading, Leads, LinkView, Machine, Member, Node, Seated, Setting, Sits}
@@ -21,6 +22,10 @@ module _ {M : Type 0} (represents : Setting → ℕ → Machine → M → Type 0
   pub on_came : {X E : Type 0} (x y z : M) (d : Deed) → IsOwn d → StandsStill represents x y → (r : Result X E) → OnOk r (HasDone represents y d z) → OnErr r (StandsStill represents y z) → ComesOn represents x z
   on_came x y z d own still (Ok t) done same = on_then represents x y z (on_still represents x y still) (on_done represents y z d own done)
   on_came x y z d own still (Err e) done same = on_then represents x y z (on_still represents x y still) (on_still represents y z same)
+
+  pub on_locked : {X E : Type 0} (x y z : M) (v : ℕ) → StandsStill represents x y → (r : Result X E) → OnOk r (HasGrantedInTurn represents y v z) → OnErr r (StandsStill represents y z) → ComesOn represents x z
+  on_locked x y z v still (Ok t) done same = on_then represents x y z (on_still represents x y still) (on_granted represents y z v done)
+  on_locked x y z v still (Err e) done same = on_then represents x y z (on_still represents x y still) (on_still represents y z same)
 
   pub on_tried : {X E : Type 0} (x y : M) → (r : Result X E) → OnOk r (HasAdmittedSome represents x y) → OnErr r (StandsStill represents x y) → ComesOn represents x y
   on_tried x y (Ok t) done same = on_admitted represents x y done

@@ -6,6 +6,7 @@ use Rattle.std.specs.Prelude.{Bool, List, None, Some, [], false, map, true, ℕ,
 use Rattle.gl_base.specs.declared.scopes.ScopeId.{ScopeId}
 use Rattle.coordinator.specs.coord_core.Calls.{HasBegunNext, HasHandedOver, HasPutStep, HasPutWave, HasTakenReport, MayReport}
 use Rattle.coordinator.specs.machine_api.AtOnce.{HasUpdatedAtOnce}
+use Rattle.coordinator.specs.machine_api.InTurn.{HasGrantedInTurn}
 use Rattle.coordinator.specs.machine_api.Promises.{Deed, HasAdmittedSome, HasDone, HasHeard, IsReporting, MayHearCall, OfEach, StandsStill, Update, message_view}
 use Rattle.coordinator.specs.machine_api.Told.{message_read}
 use Rattle.link_tables.specs.Seats.{sight}
@@ -21,6 +22,8 @@ pub data Act : Type 0 where
   -- it grants a lock, makes a snapshot update or puts its section out; or it admits a scope
   Does : (deed : Deed) → Act
   Admits : Act
+  -- it grants the lock of this vertex, and in turn those of some others
+  GrantsInTurn : (vertex : ℕ) → Act
   -- it makes the update of a ready scope under this ticket, or one at once
   Updates : (scope : ScopeId) → (ticket : ℕ) → Act
   UpdatesAtOnce : (vertex : ℕ) → (ticket : ℕ) → Act
@@ -36,6 +39,7 @@ pub data Act : Type 0 where
 abbrev pub IsMade : {M : Type 0} → (Setting → ℕ → Machine → M → Type 0) → ℕ → ℕ → ℕ → Act → M → Sat (Seated M) LinkView → M → Sat (Seated M) LinkView → Type 0
 IsMade represents many peers a (Does d) x old y new = IsOwn d × HasDone represents x d y × Sees old new
 IsMade represents many peers a Admits x old y new = HasAdmittedSome represents x y × Sees old new
+IsMade represents many peers a (GrantsInTurn v) x old y new = HasGrantedInTurn represents x v y × Sees old new
 IsMade represents many peers a (Updates s ticket) x old y new = HasDone represents x (Update s ticket) y × HasSeen old new (sight (word_at many) ticket None)
 IsMade represents many peers a (UpdatesAtOnce v ticket) x old y new = HasUpdatedAtOnce represents x v ticket y × HasSeen old new (sight (word_at many) ticket None)
 IsMade represents many peers a (Hears p heard) x old y new =

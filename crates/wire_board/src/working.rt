@@ -4,6 +4,7 @@ ghost use Rattle.wire_board.specs.Acts.{MovesAlone};
 ghost use Rattle.wire_board.specs.Standings.{ComesOn};
 
 use cluster_step::clusters::SavingMachine;
+use coordinator::machine_api::EagerMachine;
 use gl_base::{NoMemory, Refused};
 
 /// Whether it was done.
@@ -18,14 +19,14 @@ fn was_done(came: Result<(), Refused>) -> Result<bool, NoMemory>
     }
 }
 
-/// Grants a lock, or else makes a snapshot update, or else puts the section out. Says whether there
-/// was one.
-fn go_on<M: SavingMachine>(machine: &mut M) -> Result<bool, NoMemory>
+/// Grants a lock, and behind it those that its scope asks for here and nobody else claims, or else
+/// makes a snapshot update, or else puts the section out. Says whether there was one.
+fn go_on<M: EagerMachine>(machine: &mut M) -> Result<bool, NoMemory>
     ensures comes { ComesOn M.represents machine.old machine.new }
     ensures moved { IfOk result (MovesAlone M.represents machine.old machine.new) }
 {
     if let Some(x) = machine.next_grant() {
-        return was_done(machine.grant(x));
+        return was_done(machine.grant_in_turn(x));
     }
     if let Some(scope) = machine.next_mark() {
         return was_done(machine.mark(scope));
@@ -35,7 +36,7 @@ fn go_on<M: SavingMachine>(machine: &mut M) -> Result<bool, NoMemory>
 
 /// Does all that may be done without a ticket and without a message. Says whether there was
 /// something.
-pub(crate) fn settle_all<M: SavingMachine>(machine: &mut M) -> Result<bool, NoMemory>
+pub(crate) fn settle_all<M: EagerMachine>(machine: &mut M) -> Result<bool, NoMemory>
     ensures comes { ComesOn M.represents machine.old machine.new }
     ensures moved { IfOk result (MovesAlone M.represents machine.old machine.new) }
 {
