@@ -32,10 +32,39 @@ fn print_line(rt: &impl Print, alloc: Global, line: &Graph) -> io::Result<()> {
     match given(alloc, line) {
         Ok((home, other)) => {
             print_kept(rt, "at home", &home)?;
-            print_kept(rt, "at the other machine", &other)
+            print_kept(rt, "at the other machine", &other)?;
         }
-        Err(fault) => println!(rt; "line of four, given: {fault}"),
+        Err(fault) => println!(rt; "line of four, given: {fault}")?,
     }
+    match ways(alloc, line) {
+        Ok((low, high, machines)) => {
+            println!(rt; "line of four, locks of the scope of 3: {low:?} then {high:?}")?;
+            println!(rt; "line of four, machines of that scope: {machines:?}")
+        }
+        Err(fault) => println!(rt; "line of four, ways: {fault}"),
+    }
+}
+
+/// Which locks the scope of the third vertex of the line takes at the machine of the first two, and
+/// at that of the others, and which machines it visits.
+fn ways(alloc: Global, line: &Graph) -> Result<(Vec<u32>, Vec<u32>, Vec<u16>), NoMemory> {
+    if line.n() != 4 {
+        return Err(NoMemory);
+    }
+    let (low, high) = (MachineNo(0), MachineNo(1));
+    let owner = [low, low, high, high];
+    let Some(division) = Division::new(line, &owner) else {
+        return Err(NoMemory);
+    };
+    let v = Vertex(2);
+    let first = division.lock_order(alloc, v, low)?;
+    let last = division.lock_order(alloc, v, high)?;
+    let machines = division.machine_order(alloc, v, 2)?;
+    Ok((
+        first.iter().map(|x| x.0).collect(alloc)?,
+        last.iter().map(|x| x.0).collect(alloc)?,
+        machines.iter().map(|m| m.0).collect(alloc)?,
+    ))
 }
 
 /// The numbers of the line after an update of its third vertex, and one of its first.
@@ -73,11 +102,10 @@ fn given(alloc: Global, line: &Graph) -> Result<(KeptNumbers, KeptNumbers), NoMe
     let mut home = kept(alloc, [false, false, true, true])?;
     let mut other = kept(alloc, [true, true, false, false])?;
     let seen = [(Vertex(1), INF), (Vertex(2), INF), (Vertex(3), INF)];
-    let woken = home.update(alloc, &division, &Pairs, Vertex(2), &seen)?;
-    if home.numbers.len() != 4 || home.edges.len() != 3 {
-        return Err(NoMemory);
-    }
-    let gift = home.give(alloc, &division, Vertex(2), MachineNo(0), woken)?;
+    let (low, high, v) = (MachineNo(0), MachineNo(1), Vertex(2));
+    let made = home.make(alloc, &division, &Pairs, high, v, &seen)?;
+    home.write(&division, v, &made);
+    let gift = made.give(alloc, &division, v, low)?;
     other.take(&gift);
     Ok((home, other))
 }
