@@ -23,7 +23,7 @@ use Rattle.full_cluster.specs.declared.divisions.Division.{Division}
 use Rattle.full_cluster.specs.declared.machines.FullMachine.{FullMachine}
 use Rattle.full_cluster.specs.declared.queues.FullQueues.{FullQueues}
 use Rattle.full_cluster.specs.declared.clusters.FullCluster.{FullCluster}
-use Rattle.full_cluster.specs.FullClusters.{AreOfWorld, HasApplied, IsCluster, IsClusterOf, IsLinkOf, IsReached, IsSeatOf, IsSettingOf, IsUnused}
+use Rattle.full_cluster.specs.FullClusters.{AreOfWorld, HasApplied, IsCluster, IsClusterOf, IsLinkOf, IsReached, IsFullSeat, IsSettingOf, IsUnused}
 use Rattle.full_cluster.specs.FullMachines.{AreScopesOnce, AskForIt, GivesWhatItHolds, HasDelivered, HasSentFrom, IsMachineOf, IsOneOf, IsSameMachine, IsSizedFor}
 use Rattle.full_cluster.specs.FullQueues.{AreQueuesOf}
 use Rattle.full_cluster.specs.Given.{IsDividedAs}
@@ -45,25 +45,25 @@ reached_coherent st p w is reached = coherent st p w (run_kept st is p reached.a
 
 -- ---- one of the machines
 
-pub seat_at : (st : Setting) (p : FullUpdate) (w : FullWorld) (machines : List FullMachine) (links : List FullQueues) (next left a : ℕ) (m : FullMachine) → AreOfWorld st p w machines links next left → a < length machines → m ≡ slice_index_or machines a m → IsSeatOf st a m (w.part a)
-seat_at st p w machines links next left a m are low at = subst (λ (one : FullMachine). IsSeatOf st a one (w.part a)) (sym at) (are.seats a m low)
+pub seat_at : (st : Setting) (p : FullUpdate) (w : FullWorld) (machines : List FullMachine) (links : List FullQueues) (next left a : ℕ) (m : FullMachine) → AreOfWorld st p w machines links next left → a < length machines → m ≡ slice_index_or machines a m → IsFullSeat st a m (w.part a)
+seat_at st p w machines links next left a m are low at = subst (λ (one : FullMachine). IsFullSeat st a one (w.part a)) (sym at) (are.seats a m low)
 
 pub link_at : (st : Setting) (p : FullUpdate) (w : FullWorld) (machines : List FullMachine) (links : List FullQueues) (next left a : ℕ) (link : FullQueues) → AreOfWorld st p w machines links next left → a < length links → link ≡ slice_index_or links a link → IsLinkOf st link (w.link a)
 link_at st p w machines links next left a link are low at = subst (λ (one : FullQueues). IsLinkOf st one (w.link a)) (sym at) (are.links_are a link low)
 
 -- it is the machine of its own number
-pub seat_own : (st : Setting) (w : FullWorld) (a : ℕ) (m : FullMachine) → IsSeatOf st a m (w.part a) → IsMachineOf st m (w.part m.me.0)
+pub seat_own : (st : Setting) (w : FullWorld) (a : ℕ) (m : FullMachine) → IsFullSeat st a m (w.part a) → IsMachineOf st m (w.part m.me.0)
 seat_own st w a m seat = subst (λ (b : ℕ). IsMachineOf st m (w.part b)) (sym seat.me) seat.is
 
-pub seat_sized : (st : Setting) (division : Division) (a : ℕ) (m : FullMachine) (part : FullPart) → IsDividedAs st division → IsSeatOf st a m part → IsSizedFor m division.graph.now
+pub seat_sized : (st : Setting) (division : Division) (a : ℕ) (m : FullMachine) (part : FullPart) → IsDividedAs st division → IsFullSeat st a m part → IsSizedFor m division.graph.now
 seat_sized st division a m part divided seat =
     subst (λ (g : DataGraph). IsSizedFor m g) divided.graph
     (record { numbers = seat.is.numbers.count; edges = seat.is.numbers.edge_count; tasks = seat.is.numbers.task_count; locks = seat.is.lock_count })
 
-pub seat_once : (st : Setting) (a : ℕ) (m : FullMachine) (part : FullPart) → IsSeatOf st a m part → AreScopesOnce m
+pub seat_once : (st : Setting) (a : ℕ) (m : FullMachine) (part : FullPart) → IsFullSeat st a m part → AreScopesOnce m
 seat_once st a m part seat = record { flights = seat.is.flights_once; stands = seat.is.stands_once; ready = seat.is.ready_once }
 
-pub seat_one : (st : Setting) (terms : FullTerms) (a : ℕ) (m : FullMachine) (part : FullPart) → st.machines ≡ terms.machines → a < st.machines → IsSeatOf st a m part → IsOneOf m terms.machines
+pub seat_one : (st : Setting) (terms : FullTerms) (a : ℕ) (m : FullMachine) (part : FullPart) → st.machines ≡ terms.machines → a < st.machines → IsFullSeat st a m part → IsOneOf m terms.machines
 seat_one st terms a m part many low seat =
     subst (λ (n : ℕ). IsOneOf m n) many (record { me = subst (λ (b : ℕ). b < st.machines) (sym seat.me) low; queues = seat.queues })
 
@@ -79,15 +79,15 @@ owners_low st division terms fits = λ v d inside.
 
 -- ---- a machine and a list of links have changed
 
-seats_set : (st : Setting) (w also : FullWorld) (machines : List FullMachine) (a : ℕ) (m : FullMachine) → a < length machines → ((k : ℕ) → k ≢ a → also.part k ≡ w.part k) → IsSeatOf st a m (also.part a) →
-    ((k : ℕ) (d : FullMachine) → k < length machines → IsSeatOf st k (slice_index_or machines k d) (w.part k)) →
-    (k : ℕ) (d : FullMachine) → k < length (slice_set machines a m) → IsSeatOf st k (slice_index_or (slice_set machines a m) k d) (also.part k)
+seats_set : (st : Setting) (w also : FullWorld) (machines : List FullMachine) (a : ℕ) (m : FullMachine) → a < length machines → ((k : ℕ) → k ≢ a → also.part k ≡ w.part k) → IsFullSeat st a m (also.part a) →
+    ((k : ℕ) (d : FullMachine) → k < length machines → IsFullSeat st k (slice_index_or machines k d) (w.part k)) →
+    (k : ℕ) (d : FullMachine) → k < length (slice_set machines a m) → IsFullSeat st k (slice_index_or (slice_set machines a m) k d) (also.part k)
 seats_set st w also machines a m low same seat seats = λ k d inside. ⊎_elim
-    (λ (at : k ≡ a). subst (λ (j : ℕ). IsSeatOf st j (slice_index_or (slice_set machines a m) j d) (also.part j)) (sym at)
-    (subst (λ (one : FullMachine). IsSeatOf st a one (also.part a)) (sym (get_or-set_same machines a m d low)) seat))
+    (λ (at : k ≡ a). subst (λ (j : ℕ). IsFullSeat st j (slice_index_or (slice_set machines a m) j d) (also.part j)) (sym at)
+    (subst (λ (one : FullMachine). IsFullSeat st a one (also.part a)) (sym (get_or-set_same machines a m d low)) seat))
     (λ (off : k ≢ a). let long = length-set machines a m in let early : k < length machines = omega arith in
-    subst (λ (one : FullMachine). IsSeatOf st k one (also.part k)) (sym (get_or-set_other machines a k m d off))
-    (subst (λ (part : FullPart). IsSeatOf st k (slice_index_or machines k d) part) (sym (same k off)) (seats k d early)))
+    subst (λ (one : FullMachine). IsFullSeat st k one (also.part k)) (sym (get_or-set_other machines a k m d off))
+    (subst (λ (part : FullPart). IsFullSeat st k (slice_index_or machines k d) part) (sym (same k off)) (seats k d early)))
     (cases_eq k a)
 
 links_set : (st : Setting) (w also : FullWorld) (links : List FullQueues) (b : ℕ) (link : FullQueues) → b < length links → ((k : ℕ) → k ≢ b → also.link k ≡ w.link k) → IsLinkOf st link (also.link b) →
@@ -114,7 +114,7 @@ not_beyond k a n past low = λ is. absurd (omega arith)
 
 -- this machine alone has changed
 pub world_of_machine : (st : Setting) (p : FullUpdate) (w also : FullWorld) (machines : List FullMachine) (links : List FullQueues) (next left a : ℕ) (m : FullMachine) → a < length machines →
-    AreOfWorld st p w machines links next left → IsReached st p also → ((k : ℕ) → k ≢ a → also.part k ≡ w.part k) → also.link ≡ w.link → also.next ≡ w.next → also.left ≡ w.left → IsSeatOf st a m (also.part a) →
+    AreOfWorld st p w machines links next left → IsReached st p also → ((k : ℕ) → k ≢ a → also.part k ≡ w.part k) → also.link ≡ w.link → also.next ≡ w.next → also.left ≡ w.left → IsFullSeat st a m (also.part a) →
     AreOfWorld st p also (slice_set machines a m) links next left
 world_of_machine st p w also machines links next left a m low are reached parts way drawn tickets seat =
     let low_all : a < st.machines = subst (λ (n : ℕ). a < n) are.count low in
@@ -132,7 +132,7 @@ world_of_machine st p w also machines links next left a m low are reached parts 
 -- this machine, and the links from that one, have changed
 pub world_of_both : (st : Setting) (p : FullUpdate) (w also : FullWorld) (machines : List FullMachine) (links : List FullQueues) (next left a b : ℕ) (m : FullMachine) (link : FullQueues) → a < length machines → b < length links →
     AreOfWorld st p w machines links next left → IsReached st p also → ((k : ℕ) → k ≢ a → also.part k ≡ w.part k) → ((k : ℕ) → k ≢ b → also.link k ≡ w.link k) → also.next ≡ w.next → also.left ≡ w.left →
-    IsSeatOf st a m (also.part a) → IsLinkOf st link (also.link b) → AreOfWorld st p also (slice_set machines a m) (slice_set links b link) next left
+    IsFullSeat st a m (also.part a) → IsLinkOf st link (also.link b) → AreOfWorld st p also (slice_set machines a m) (slice_set links b link) next left
 world_of_both st p w also machines links next left a b m link low from are reached parts ways drawn tickets seat is =
     let low_all : a < st.machines = subst (λ (n : ℕ). a < n) are.count low in
     let from_all : b < st.machines = subst (λ (n : ℕ). b < n) are.link_count from in
@@ -149,7 +149,7 @@ world_of_both st p w also machines links next left a b m link low from are reach
 
 -- all is as it was
 pub world_same : (st : Setting) (p : FullUpdate) (w : FullWorld) (machines : List FullMachine) (links : List FullQueues) (next left a : ℕ) (m : FullMachine) → a < length machines →
-    AreOfWorld st p w machines links next left → IsSeatOf st a m (w.part a) → AreOfWorld st p w (slice_set machines a m) links next left
+    AreOfWorld st p w machines links next left → IsFullSeat st a m (w.part a) → AreOfWorld st p w (slice_set machines a m) links next left
 world_same st p w machines links next left a m low are seat = world_of_machine st p w w machines links next left a m low are are.reached (λ k off. refl) refl refl refl seat
 
 pub off_part : (w : FullWorld) (a : ℕ) (part : FullPart) (k : ℕ) → k ≢ a → (with_full_part w a part).part k ≡ w.part k
@@ -160,19 +160,19 @@ at_part w a part = rw (eq-eqb a a refl) refl
 
 -- the machine has this part now, by an action that might happen
 pub world_of_part : (st : Setting) (p : FullUpdate) (w : FullWorld) (machines : List FullMachine) (links : List FullQueues) (next left a : ℕ) (m : FullMachine) (part : FullPart) → a < length machines →
-    AreOfWorld st p w machines links next left → IsReached st p (with_full_part w a part) → IsSeatOf st a m part → AreOfWorld st p (with_full_part w a part) (slice_set machines a m) links next left
+    AreOfWorld st p w machines links next left → IsReached st p (with_full_part w a part) → IsFullSeat st a m part → AreOfWorld st p (with_full_part w a part) (slice_set machines a m) links next left
 world_of_part st p w machines links next left a m part low are reached seat =
     world_of_machine st p w (with_full_part w a part) machines links next left a m low are reached (off_part w a part) refl refl refl
-    (subst (λ (one : FullPart). IsSeatOf st a m one) (sym (at_part w a part)) seat)
+    (subst (λ (one : FullPart). IsFullSeat st a m one) (sym (at_part w a part)) seat)
 
 -- ---- what an event makes of the cluster
 
-pub seat_still : (st : Setting) (a : ℕ) (m new : FullMachine) (part also : FullPart) → IsSeatOf st a m part → IsSameMachine m new → IsMachineOf st new also → IsSeatOf st a new also
+pub seat_still : (st : Setting) (a : ℕ) (m new : FullMachine) (part also : FullPart) → IsFullSeat st a m part → IsSameMachine m new → IsMachineOf st new also → IsFullSeat st a new also
 seat_still st a m new part also seat still is = record { me = ap (λ (b : MachineNo). b.0) still.me ∙ seat.me; queues = still.machines ∙ seat.queues; is = is }
 
 -- the machine has acted
 pub acted : (st : Setting) (p : FullUpdate) (w : FullWorld) (machines : List FullMachine) (links : List FullQueues) (next left a : ℕ) (m new : FullMachine) (action : FullAction) (part : FullPart) →
-    after_action st p w action ≡ with_full_part w a part → a < length machines → AreOfWorld st p w machines links next left → IsSeatOf st a m (w.part a) → IsSameMachine m new → MayHappenFull st w action → IsMachineOf st new part →
+    after_action st p w action ≡ with_full_part w a part → a < length machines → AreOfWorld st p w machines links next left → IsFullSeat st a m (w.part a) → IsSameMachine m new → MayHappenFull st w action → IsMachineOf st new part →
     AreOfWorld st p (after_action st p w action) (slice_set machines a new) links next left
 acted st p w machines links next left a m new action part is low are seat still may new_is =
     let reached = subst (λ (x : FullWorld). IsReached st p x) is (reached_more st p w action are.reached may) in
@@ -181,7 +181,7 @@ acted st p w machines links next left a m new action part is low are seat still 
 
 -- the machine is as it was
 pub acted_not : (st : Setting) (p : FullUpdate) (w : FullWorld) (machines : List FullMachine) (links : List FullQueues) (next left a : ℕ) (m new : FullMachine) →
-    a < length machines → AreOfWorld st p w machines links next left → IsSeatOf st a m (w.part a) → IsSameMachine m new → IsMachineOf st new (w.part a) → AreOfWorld st p w (slice_set machines a new) links next left
+    a < length machines → AreOfWorld st p w machines links next left → IsFullSeat st a m (w.part a) → IsSameMachine m new → IsMachineOf st new (w.part a) → AreOfWorld st p w (slice_set machines a new) links next left
 acted_not st p w machines links next left a m new low are seat still new_is =
     world_same st p w machines links next left a new low are (seat_still st a m new (w.part a) (w.part a) seat still new_is)
 
@@ -207,7 +207,7 @@ still_cluster division terms st p w action c (Err e) fits applied same = record 
 -- ---- each event
 
 pub admitted : (st : Setting) (p : FullUpdate) (w : FullWorld) (machines : List FullMachine) (links : List FullQueues) (next left a v : ℕ) (m new : FullMachine) →
-    a < length machines → AreOfWorld st p w machines links next left → IsSeatOf st a m (w.part a) → IsSameMachine m new → MayAdmitFull st m.me.0 v (w.part a) × IsMachineOf st new (admitted_full st m.me.0 v (w.part a)) →
+    a < length machines → AreOfWorld st p w machines links next left → IsFullSeat st a m (w.part a) → IsSameMachine m new → MayAdmitFull st m.me.0 v (w.part a) × IsMachineOf st new (admitted_full st m.me.0 v (w.part a)) →
     MayAdmitFull st a v (w.part a) × AreOfWorld st p (after_action st p w (Admits a v)) (slice_set machines a new) links next left
 admitted st p w machines links next left a v m new low are seat still done =
     let own : MayAdmitFull st a v (w.part a) × IsMachineOf st new (admitted_full st a v (w.part a)) =
@@ -215,7 +215,7 @@ admitted st p w machines links next left a v m new low are seat still done =
     (own.0, acted st p w machines links next left a m new (Admits a v) (admitted_full st a v (w.part a)) refl low are seat still own.0 own.1)
 
 pub granted : (st : Setting) (p : FullUpdate) (w : FullWorld) (machines : List FullMachine) (links : List FullQueues) (next left a x : ℕ) (m new : FullMachine) →
-    a < length machines → AreOfWorld st p w machines links next left → IsSeatOf st a m (w.part a) → IsSameMachine m new → MayGrantFull st m.me.0 x (w.part a) × IsMachineOf st new (granted_full st m.me.0 x (w.part a)) →
+    a < length machines → AreOfWorld st p w machines links next left → IsFullSeat st a m (w.part a) → IsSameMachine m new → MayGrantFull st m.me.0 x (w.part a) × IsMachineOf st new (granted_full st m.me.0 x (w.part a)) →
     MayGrantFull st a x (w.part a) × AreOfWorld st p (after_action st p w (Grants a x)) (slice_set machines a new) links next left
 granted st p w machines links next left a x m new low are seat still done =
     let own : MayGrantFull st a x (w.part a) × IsMachineOf st new (granted_full st a x (w.part a)) =
@@ -237,20 +237,20 @@ at_link w a q ms = rw (eq-eqb a a refl) refl
 -- a machine has this part now, and a link these messages
 both_changed : (st : Setting) (p : FullUpdate) (w also : FullWorld) (machines : List FullMachine) (links : List FullQueues) (next left a b q : ℕ) (new : FullMachine) (link : FullQueues) (part : FullPart) (ms : List model.FullMessage) →
     also ≡ with_full_link (with_full_part w a part) b q ms → a < length machines → b < length links → AreOfWorld st p w machines links next left → IsReached st p also →
-    IsSeatOf st a new part → IsLinkOf st link (set_at (w.link b) q ms) → AreOfWorld st p also (slice_set machines a new) (slice_set links b link) next left
+    IsFullSeat st a new part → IsLinkOf st link (set_at (w.link b) q ms) → AreOfWorld st p also (slice_set machines a new) (slice_set links b link) next left
 both_changed st p w also machines links next left a b q new link part ms is low from are reached seat link_is =
     let after : FullWorld = with_full_link (with_full_part w a part) b q ms in
     subst (λ (x : FullWorld). AreOfWorld st p x (slice_set machines a new) (slice_set links b link) next left) (sym is)
     (world_of_both st p w after machines links next left a b new link low from are (subst (λ (x : FullWorld). IsReached st p x) is reached) (off_part w a part)
     (off_link (with_full_part w a part) b q ms) refl refl
-    (subst (λ (one : FullPart). IsSeatOf st a new one) (sym (at_part w a part)) seat)
+    (subst (λ (one : FullPart). IsFullSeat st a new one) (sym (at_part w a part)) seat)
     (subst (λ (on : ℕ → List model.FullMessage). IsLinkOf st link on) (sym (at_link (with_full_part w a part) b q ms)) link_is))
 
 sends_first : (w : FullWorld) (a q : ℕ) (messages behind : List model.FullMessage) (m : model.FullMessage) → messages ≡ m ∷ behind → sends_full w a q messages ≡ sends_full w a q (m ∷ behind)
 sends_first w a q messages behind m is = ap (sends_full w a q) is
 
 pub sent : (st : Setting) (p : FullUpdate) (w : FullWorld) (machines : List FullMachine) (links : List FullQueues) (next left a q : ℕ) (m new : FullMachine) (old_link link : FullQueues) →
-    a < length machines → a < length links → AreOfWorld st p w machines links next left → IsSeatOf st a m (w.part a) → IsLinkOf st old_link (w.link a) → IsSameMachine m new → length link.queues.items ≡ length old_link.queues.items →
+    a < length machines → a < length links → AreOfWorld st p w machines links next left → IsFullSeat st a m (w.part a) → IsLinkOf st old_link (w.link a) → IsSameMachine m new → length link.queues.items ≡ length old_link.queues.items →
     HasSentFrom st new link.queues.items (w.part a) (w.link a) q → HasFirstFull ((w.part a).out q) × AreOfWorld st p (after_action st p w (Sends a q)) (slice_set machines a new) (slice_set links a link) next left
 sent st p w machines links next left a q m new old_link link low from are seat link_is still count done =
     let part : FullPart = record (w.part a) { out = set_at (w.part a).out q done.first.behind } in (
@@ -262,7 +262,7 @@ sent st p w machines links next left a q m new old_link link low from are seat l
 
 -- the machine and the links are as they were
 pub both_same : (st : Setting) (p : FullUpdate) (w : FullWorld) (machines : List FullMachine) (links : List FullQueues) (next left a b : ℕ) (m new : FullMachine) (old_link link : FullQueues) →
-    a < length machines → b < length links → AreOfWorld st p w machines links next left → IsSeatOf st a m (w.part a) → IsLinkOf st old_link (w.link b) → IsSameMachine m new → length link.queues.items ≡ length old_link.queues.items →
+    a < length machines → b < length links → AreOfWorld st p w machines links next left → IsFullSeat st a m (w.part a) → IsLinkOf st old_link (w.link b) → IsSameMachine m new → length link.queues.items ≡ length old_link.queues.items →
     IsMachineOf st new (w.part a) × AreQueuesOf st link.queues.items (w.link b) → AreOfWorld st p w (slice_set machines a new) (slice_set links b link) next left
 both_same st p w machines links next left a b m new old_link link low from are seat link_is still count same =
     world_of_both st p w w machines links next left a b new link low from are are.reached (λ k off. refl) (λ k off. refl) refl refl
@@ -271,7 +271,7 @@ both_same st p w machines links next left a b m new old_link link low from are s
 -- ---- a message is delivered
 
 pub delivered : (st : Setting) (p : FullUpdate) (w : FullWorld) (machines : List FullMachine) (links : List FullQueues) (next left a b : ℕ) (m new : FullMachine) (old_link link : FullQueues) →
-    a < length machines → b < length links → AreOfWorld st p w machines links next left → IsSeatOf st a m (w.part a) → IsLinkOf st old_link (w.link b) → IsSameMachine m new → length link.queues.items ≡ length old_link.queues.items →
+    a < length machines → b < length links → AreOfWorld st p w machines links next left → IsFullSeat st a m (w.part a) → IsLinkOf st old_link (w.link b) → IsSameMachine m new → length link.queues.items ≡ length old_link.queues.items →
     HasDelivered st new link.queues.items (w.link b) m.me.0 (w.part a) → HasFirstFull (w.link b a) × AreOfWorld st p (after_action st p w (Delivers b a)) (slice_set machines a new) (slice_set links b link) next left
 delivered st p w machines links next left a b m new old_link link low from are seat link_is still count done =
     let own : HasDelivered st new link.queues.items (w.link b) a (w.part a) = subst (λ (k : ℕ). HasDelivered st new link.queues.items (w.link b) k (w.part a)) seat.me done in

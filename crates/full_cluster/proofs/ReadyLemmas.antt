@@ -23,7 +23,7 @@ use Rattle.full_cluster.specs.declared.machines.FullMachine.{FullMachine}
 use Rattle.full_cluster.specs.FullMachines.{IsMachineOf}
 use Rattle.full_cluster.specs.FullQueues.{seen_after, seen_in}
 use Rattle.full_cluster.specs.Given.{AreOfScope}
-use Rattle.full_cluster.specs.Updating.{IsReadyAt, IsUpdatable}
+use Rattle.full_cluster.specs.Updating.{IsFullyReadyAt, IsUpdatable}
 
 -- ---- what is listed has a number
 
@@ -77,7 +77,7 @@ module _ (st : Setting) (p : FullUpdate) (w : FullWorld) (kept : IsFullCoherent 
         outside = λ x away. gathered_is x ∙ some_if_false (is_in_scope st v x) (number_at st w x) away;
       }
 
-  pub ready_at : IsReadyAt st s.home.0 s (w.part s.home.0) v f
+  pub ready_at : IsFullyReadyAt st s.home.0 s (w.part s.home.0) v f
   ready_at =
       record {
         owned = of_stage.owned;

@@ -30,7 +30,7 @@ pub record IsSettingOf (st : Setting) (division : Division) (terms : FullTerms) 
   pub terms_are : HasTerms st terms
 
 -- The machine is number a of the setting, with a queue for each, and it is the one that has this part.
-pub record IsSeatOf (st : Setting) (a : ℕ) (m : FullMachine) (part : FullPart) : Type 0 where
+pub record IsFullSeat (st : Setting) (a : ℕ) (m : FullMachine) (part : FullPart) : Type 0 where
   pub me : m.me.0 ≡ a
   pub queues : length m.out.queues.items ≡ st.machines
   pub is : IsMachineOf st m part
@@ -51,7 +51,7 @@ pub record AreOfWorld (st : Setting) (p : FullUpdate) (w : FullWorld) (machines 
   pub reached : IsReached st p w
   pub count : length machines ≡ st.machines
   pub link_count : length links ≡ st.machines
-  pub seats : (a : ℕ) (d : FullMachine) → a < length machines → IsSeatOf st a (slice_index_or machines a d) (w.part a)
+  pub seats : (a : ℕ) (d : FullMachine) → a < length machines → IsFullSeat st a (slice_index_or machines a d) (w.part a)
   pub links_are : (a : ℕ) (d : FullQueues) → a < length links → IsLinkOf st (slice_index_or links a d) (w.link a)
   -- there are no others
   pub beyond : (a : ℕ) → st.machines ≤ a → IsUnused w a

@@ -49,14 +49,14 @@ IsUpdatable m s many =
     (v : Vertex) (seen : Vec (Vertex × ℕ)) → value_of m.flights.entries.items s ≡ Some v → value_of m.ready.entries.items s ≡ Some seen → (v.0 < many) × All (λ pair. pair.0.0 < many) seen.items
 
 -- The machine owns v, these are the numbers of its scope, and the scope holds no locks here but those of its vertices.
-pub record IsReadyAt (st : Setting) (a : ℕ) (s : ScopeId) (part : FullPart) (v : ℕ) (seen : ℕ → Option ℕ) : Type 0 where
+pub record IsFullyReadyAt (st : Setting) (a : ℕ) (s : ScopeId) (part : FullPart) (v : ℕ) (seen : ℕ → Option ℕ) : Type 0 where
   pub owned : st.owner v ≡ a
   pub gathered : AreGatheredAt st a v seen part
   pub locks : (x : ℕ) → part.holds x s ≡ true → is_in_scope st v x ≡ true
 
 -- the same of the scope, if it is in flight and ready
 abbrev pub IsReadyIfAny : Setting → ℕ → ScopeId → FullPart → Type 0
-IsReadyIfAny st a s part = (v : ℕ) (seen : ℕ → Option ℕ) → part.flight s ≡ Some v → part.ready s ≡ Some seen → IsReadyAt st a s part v seen
+IsReadyIfAny st a s part = (v : ℕ) (seen : ℕ → Option ℕ) → part.flight s ≡ Some v → part.ready s ≡ Some seen → IsFullyReadyAt st a s part v seen
 
 -- the scope isn't ready, and holds no lock
 abbrev pub let_go_full : ScopeId → FullPart → FullPart

@@ -16,7 +16,7 @@ ghost use Rattle.full_laws.specs.FullParts.{FullPart};
 ghost use Rattle.full_cluster.specs.FullMachines.{AreScopesOnce, HasTerms, IsMachineOf, IsOneOf, IsSameMachine, IsSizedFor};
 ghost use Rattle.full_cluster.specs.Given.{HasGathered, IsDividedAs};
 ghost use Rattle.full_cluster.specs.ScopeMaps.{value_of, AreOnce};
-ghost use Rattle.full_cluster.specs.Updating.{let_go_full, IsReadyAt, IsReadyIfAny, IsUpdatable};
+ghost use Rattle.full_cluster.specs.Updating.{let_go_full, IsFullyReadyAt, IsReadyIfAny, IsUpdatable};
 ghost use Rattle.full_cluster.specs.Inner.Making.{IsMade};
 
 use crate::gifts::{gifts_of, reserve_gifts, send_gifts};
@@ -111,7 +111,7 @@ impl FullMachine {
         ensures out { self.new.out ≡ self.old.out }
         ensures ended { (st : Setting) (p : FullUpdate) (part : FullPart) (f : ℕ → Option ℕ) →
             IsDividedAs st division.now → IsMachineOf st self.old part →
-            IsReadyAt st self.old.me.0 scope part v.0 f → part.ready scope ≡ Some f →
+            IsFullyReadyAt st self.old.me.0 scope part v.0 f → part.ready scope ≡ Some f →
             HasGathered f self.old.kept.numbers.items →
             let lent = lent_full f part in let after = after_full st.graph p lent v.0 in
             IsMade st.graph after v.0 made.now.centre made.now.row.items →

@@ -27,7 +27,7 @@ use Rattle.whole_laws.specs.cluster_records.Recorded.{IsAccounted}
 use Rattle.whole_laws.specs.cluster_whole.Logged.{Logged, all_entries}
 use Rattle.whole_laws.specs.cluster_whole.Whole.{IsNoRecovery, IsWhole, setting_behind}
 use Rattle.wire_board.proofs.Goings.{passing_others}
-use Rattle.wire_board.specs.Receipts.{AreLengthsOf, AreMadeSince, HasMergedBehind, HaveBeenMade, IsMerge, IsReceipt, Machine, Setting, TraceView, logged_behind}
+use Rattle.wire_board.specs.Receipts.{AreLengthsOf, AreMadeSince, HasLoggedBehind, HaveBeenMade, IsMerge, IsReceipt, Machine, Setting, TraceView, logged_behind}
 
 each-append : {X : Type 0} (P : X → Type 0) (xs ys : List X) → AllByRecursion P xs → AllByRecursion P ys → AllByRecursion P (xs ++ ys)
 each-append P [] ys one other = other
@@ -220,7 +220,7 @@ machines_are represents v st o events c is = is.code.many ∙ ap (λ (s : Settin
 
 module _ {M : Type 0} (represents : Setting → ℕ → Machine → M → Type 0) (v w : TraceView M) where
   -- what was merged is what was made
-  pub receipt_is : (lengths : List ℕ) (base entries : List Entry) → AreLengthsOf represents v lengths → TraceGoesOn represents v w → HasMergedBehind represents w lengths base entries → IsReceipt represents v w base entries
+  pub receipt_is : (lengths : List ℕ) (base entries : List Entry) → AreLengthsOf represents v lengths → TraceGoesOn represents v w → HasLoggedBehind represents w lengths base entries → IsReceipt represents v w base entries
   receipt_is lengths base entries are goes has = record {
     made = has.made;
     entries_are = has.entries_are;

@@ -47,7 +47,7 @@ logged_behind lengths zero c = []
 logged_behind lengths (suc n) c = logged_behind lengths n c ++ drop (slice_index_or lengths n 0) (c.machine n).part.log
 
 -- The entries are those that came in, and behind them in one order by ticket what the logs have behind these lengths.
-pub record HasMergedBehind {M : Type 0} (represents : Setting → ℕ → Machine → M → Type 0) (v : TraceView M) (lengths : List ℕ) (base entries : List Entry) : Type 0 where
+pub record HasLoggedBehind {M : Type 0} (represents : Setting → ℕ → Machine → M → Type 0) (v : TraceView M) (lengths : List ℕ) (base entries : List Entry) : Type 0 where
   pub made : List Entry
   pub entries_are : entries ≡ base ++ made
   pub merged : InEachTrace represents v (λ st o events c. IsMerge (logged_behind lengths st.machines c) made)

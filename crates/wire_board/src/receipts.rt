@@ -2,7 +2,7 @@
 ghost use Rattle.std.specs.Prelude.{◌≡◌, drop, length, IfOk};
 ghost use Rattle.cluster_laws.specs.cluster_core.Replays.{ticket_of};
 ghost use Rattle.cluster_step.specs.trace.Traces.{InEachTrace};
-ghost use Rattle.wire_board.specs.Receipts.{AreLengthsOf, HasMergedBehind, IsMerge, entries_in, logged_behind};
+ghost use Rattle.wire_board.specs.Receipts.{AreLengthsOf, HasLoggedBehind, IsMerge, entries_in, logged_behind};
 
 use cluster_step::clusters::SavingMachine;
 use cluster_step::trace::Trace;
@@ -66,7 +66,7 @@ impl Opened {
         trace: &Trace<M>,
     ) -> Result<Receipt, NoMemory>
         requires { length self.lengths.items ≡ length trace.now.now.machines.items }
-        ensures { IfOk result (λ receipt. HasMergedBehind M.represents trace.now self.lengths.items
+        ensures { IfOk result (λ receipt. HasLoggedBehind M.represents trace.now self.lengths.items
             (entries_in self.so_far) receipt) }
     {
         let Opened { so_far, lengths } = self;

@@ -14,7 +14,7 @@ use Rattle.full_cluster.specs.declared.machines.FullMachine.{FullMachine}
 use Rattle.full_cluster.specs.FullMachines.{IsMachineOf}
 use Rattle.full_cluster.specs.FullQueues.{seen_in}
 use Rattle.full_cluster.specs.Given.{AreGatheredAt, HasNumbers, IsSeenList}
-use Rattle.full_cluster.specs.Updating.{AreGiftsTo, IsReadyAt}
+use Rattle.full_cluster.specs.Updating.{AreGiftsTo, IsFullyReadyAt}
 use Rattle.full_cluster.proofs.EndLemmas.{again, may_be, seen_is_list, told_of}
 use Rattle.full_cluster.proofs.GrantLemmas.{any_err}
 use Rattle.full_cluster.proofs.machines.FullMachine.update.Goals as goal
@@ -78,7 +78,7 @@ returns-clause-updated g c = λ st part divided terms is if_ready.
     let flight : part.flight s ≡ Some v.0 = is.flights s ∙ ap (option_map (λ (x : Vertex). x.0)) c.in-Some.ensures.some in
     let ready : part.ready s ≡ Some f = is.ready s ∙ ap (option_map (λ (x : Vec (Vertex × ℕ)). seen_in x.items)) c.in-Some-get.ensures.some in
     let may : MayUpdateFull s part c.args.tickets.left = record { vertex = v.0; seen = f; flight = flight; ready = ready; ticket = omega (arith, some) } in
-    let at : IsReadyAt st me s part v.0 f = if_ready v.0 f flight ready in
+    let at : IsFullyReadyAt st me s part v.0 f = if_ready v.0 f flight ready in
     let list : IsSeenList c.deref.result.now f = subst (λ (ps : List (Vertex × ℕ)). IsSeenList ps f) (sym c.deref.ensures.value) (seen_is_list seen.items) in
     let own : HasNumbers st (st.owner v.0) m.kept part = subst (λ (a : ℕ). HasNumbers st a m.kept part) (sym at.owned) is.numbers in
     let gathered : AreGatheredAt st (st.owner v.0) v.0 f part = subst (λ (a : ℕ). AreGatheredAt st a v.0 f part) (sym at.owned) at.gathered in
