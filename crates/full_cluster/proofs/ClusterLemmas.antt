@@ -1,5 +1,5 @@
 -- A cluster after one of its machines, and one of its lists of links, have changed.
-use Rattle.std.proofs.Common.{◌≡◌, ◌≢◌, ℕ, ◌<◌, ◌≤◌, List, [], ◌∷◌, ◌++◌, length, slice_index_or, slice_set, refl, sym, ◌∙◌, ap, subst, ⊎_elim, arith, eq-eqb, ne_eqb, get_or-set_same, get_or-set_other}
+use Rattle.std.proofs.Common.{◌≡◌, ◌≢◌, ℕ, ◌+◌, ◌^◌, ◌<◌, ◌≤◌, List, [], ◌∷◌, ◌++◌, length, slice_index_or, slice_set, refl, sym, ◌∙◌, ap, subst, ⊎_elim, arith, eq-eqb, ne_eqb, get_or-set_same, get_or-set_other}
 use Rattle.std.specs.List.{All}
 use Rattle.std.specs.Prelude.{Err, Ok, OnErr, OnOk, Result}
 use Rattle.std.proofs.Math.ListN.{length-set}
@@ -23,7 +23,7 @@ use Rattle.full_cluster.specs.declared.divisions.Division.{Division}
 use Rattle.full_cluster.specs.declared.machines.FullMachine.{FullMachine}
 use Rattle.full_cluster.specs.declared.queues.FullQueues.{FullQueues}
 use Rattle.full_cluster.specs.declared.clusters.FullCluster.{FullCluster}
-use Rattle.full_cluster.specs.FullClusters.{AreOfWorld, HasApplied, IsCluster, IsClusterOf, IsLinkOf, IsReached, IsFullSeat, IsSettingOf, IsUnused}
+use Rattle.full_cluster.specs.FullClusters.{AreOfWorld, HasApplied, IsCluster, IsClusterFor, IsClusterOf, IsLinkOf, IsReached, IsFullSeat, IsSettingOf, IsUnused}
 use Rattle.full_cluster.specs.FullMachines.{AreScopesOnce, AskForIt, GivesWhatItHolds, HasDelivered, HasSentFrom, IsMachineOf, IsOneOf, IsSameMachine, IsSizedFor}
 use Rattle.full_cluster.specs.FullQueues.{AreQueuesOf}
 use Rattle.full_cluster.specs.Given.{IsDividedAs}
@@ -112,11 +112,11 @@ unused_still w also k part link is =
 not_beyond : (k a n : ℕ) → n ≤ k → a < n → k ≢ a
 not_beyond k a n past low = λ is. absurd (omega arith)
 
--- this machine alone has changed
-pub world_of_machine : (st : Setting) (p : FullUpdate) (w also : FullWorld) (machines : List FullMachine) (links : List FullQueues) (next left a : ℕ) (m : FullMachine) → a < length machines →
-    AreOfWorld st p w machines links next left → IsReached st p also → ((k : ℕ) → k ≢ a → also.part k ≡ w.part k) → also.link ≡ w.link → also.next ≡ w.next → also.left ≡ w.left → IsFullSeat st a m (also.part a) →
-    AreOfWorld st p also (slice_set machines a m) links next left
-world_of_machine st p w also machines links next left a m low are reached parts way drawn tickets seat =
+-- this machine alone has changed, and the tickets
+pub world_of_machine : (st : Setting) (p : FullUpdate) (w also : FullWorld) (machines : List FullMachine) (links : List FullQueues) (next left drawn rest a : ℕ) (m : FullMachine) → a < length machines →
+    AreOfWorld st p w machines links next left → IsReached st p also → ((k : ℕ) → k ≢ a → also.part k ≡ w.part k) → also.link ≡ w.link → also.next ≡ drawn → also.left ≡ rest → drawn + rest < 2 ^ 64 → IsFullSeat st a m (also.part a) →
+    AreOfWorld st p also (slice_set machines a m) links drawn rest
+world_of_machine st p w also machines links next left drawn rest a m low are reached parts way drawn_is rest_is few seat =
     let low_all : a < st.machines = subst (λ (n : ℕ). a < n) are.count low in
     record {
       reached = reached;
@@ -125,8 +125,9 @@ world_of_machine st p w also machines links next left a m low are reached parts 
       seats = seats_set st w also machines a m low parts seat are.seats;
       links_are = λ k d inside. subst (λ (on : ℕ → ℕ → List model.FullMessage). IsLinkOf st (slice_index_or links k d) (on k)) (sym way) (are.links_are k d inside);
       beyond = λ k past. unused_still w also k (parts k (not_beyond k a st.machines past low_all)) (ap (λ (on : ℕ → ℕ → List model.FullMessage). on k) way) (are.beyond k past);
-      drawn = drawn ∙ are.drawn;
-      tickets = tickets ∙ are.tickets;
+      drawn = drawn_is;
+      tickets = rest_is;
+      few = few;
     }
 
 -- this machine, and the links from that one, have changed
@@ -145,12 +146,13 @@ world_of_both st p w also machines links next left a b m link low from are reach
       beyond = λ k past. unused_still w also k (parts k (not_beyond k a st.machines past low_all)) (ways k (not_beyond k b st.machines past from_all)) (are.beyond k past);
       drawn = drawn ∙ are.drawn;
       tickets = tickets ∙ are.tickets;
+      few = are.few;
     }
 
 -- all is as it was
 pub world_same : (st : Setting) (p : FullUpdate) (w : FullWorld) (machines : List FullMachine) (links : List FullQueues) (next left a : ℕ) (m : FullMachine) → a < length machines →
     AreOfWorld st p w machines links next left → IsFullSeat st a m (w.part a) → AreOfWorld st p w (slice_set machines a m) links next left
-world_same st p w machines links next left a m low are seat = world_of_machine st p w w machines links next left a m low are are.reached (λ k off. refl) refl refl refl seat
+world_same st p w machines links next left a m low are seat = world_of_machine st p w w machines links next left next left a m low are are.reached (λ k off. refl) refl are.drawn are.tickets are.few seat
 
 pub off_part : (w : FullWorld) (a : ℕ) (part : FullPart) (k : ℕ) → k ≢ a → (with_full_part w a part).part k ≡ w.part k
 off_part w a part k off = rw (ne_eqb k a off) refl
@@ -162,7 +164,7 @@ at_part w a part = rw (eq-eqb a a refl) refl
 pub world_of_part : (st : Setting) (p : FullUpdate) (w : FullWorld) (machines : List FullMachine) (links : List FullQueues) (next left a : ℕ) (m : FullMachine) (part : FullPart) → a < length machines →
     AreOfWorld st p w machines links next left → IsReached st p (with_full_part w a part) → IsFullSeat st a m part → AreOfWorld st p (with_full_part w a part) (slice_set machines a m) links next left
 world_of_part st p w machines links next left a m part low are reached seat =
-    world_of_machine st p w (with_full_part w a part) machines links next left a m low are reached (off_part w a part) refl refl refl
+    world_of_machine st p w (with_full_part w a part) machines links next left next left a m low are reached (off_part w a part) refl are.drawn are.tickets are.few
     (subst (λ (one : FullPart). IsFullSeat st a m one) (sym (at_part w a part)) seat)
 
 -- ---- what an event makes of the cluster
@@ -203,6 +205,16 @@ pub still_cluster : {T E : Type 0} (division : Division) (terms : FullTerms) (st
     IsCluster division terms c
 still_cluster division terms st p w action c (Ok done) fits applied same = record { setting = st; program = p; world = after_action st p w action; fits = fits; is = applied.after }
 still_cluster division terms st p w action c (Err e) fits applied same = record { setting = st; program = p; world = w; fits = fits; is = same }
+
+-- the same where updates are made of this program
+pub still_for : {T E : Type 0} (division : Division) (terms : FullTerms) (st : Setting) (p : FullUpdate) (w : FullWorld) (action : FullAction) (c : FullCluster) (r : Result T E) → IsSettingOf st division terms → OnOk r (HasApplied st p w action c) → OnErr r (IsClusterOf st p w c) →
+    IsClusterFor division terms p c
+still_for division terms st p w action c (Ok done) fits applied same = record { setting = st; world = after_action st p w action; fits = fits; is = applied.after }
+still_for division terms st p w action c (Err e) fits applied same = record { setting = st; world = w; fits = fits; is = same }
+
+-- it is some program
+pub of_some_program : (division : Division) (terms : FullTerms) (p : FullUpdate) (c : FullCluster) → IsClusterFor division terms p c → IsCluster division terms c
+of_some_program division terms p c has = record { setting = has.setting; program = p; world = has.world; fits = has.fits; is = has.is }
 
 -- ---- each event
 

@@ -21,3 +21,5 @@ pub mod CoherentLemmas
 pub mod ClusterLemmas
 pub mod ReadyLemmas
 pub mod EndLemmas
+pub mod StartLemmas
+pub mod ClusterUpdates

@@ -1,5 +1,5 @@
 -- A cluster in code is a cluster of the model.
-use Rattle.std.specs.Prelude.{◌≡◌, ℕ, ◌<◌, ◌≤◌, Option, None, List, [], length, slice_index_or}
+use Rattle.std.specs.Prelude.{◌≡◌, ℕ, ◌+◌, ◌^◌, ◌<◌, ◌≤◌, None, List, [], length, slice_index_or}
 use Rattle.gl_base.specs.declared.scopes.ScopeId.{ScopeId}
 use Rattle.cluster_laws.specs.cluster_core.Settings.{Setting}
 use Rattle.full_scope.specs.FullUpdates.{FullUpdate}
@@ -57,6 +57,8 @@ pub record AreOfWorld (st : Setting) (p : FullUpdate) (w : FullWorld) (machines 
   pub beyond : (a : ℕ) → st.machines ≤ a → IsUnused w a
   pub drawn : w.next ≡ next
   pub tickets : w.left ≡ left
+  -- each ticket is a number of 64 bits
+  pub few : next + left < 2 ^ 64
 
 -- the cluster is this world, which was reached from a start
 abbrev pub IsClusterOf : Setting → FullUpdate → FullWorld → FullCluster → Type 0
@@ -69,6 +71,13 @@ pub record IsCluster (division : Division) (terms : FullTerms) (c : FullCluster)
   pub world : FullWorld
   pub fits : IsSettingOf setting division terms
   pub is : IsClusterOf setting program world c
+
+-- the cluster is some world of a division and of terms where updates are made of this program
+pub record IsClusterFor (division : Division) (terms : FullTerms) (p : FullUpdate) (c : FullCluster) : Type 0 where
+  pub setting : Setting
+  pub world : FullWorld
+  pub fits : IsSettingOf setting division terms
+  pub is : IsClusterOf setting p world c
 
 -- the action might happen, and the cluster is the world after it
 pub record HasApplied (st : Setting) (p : FullUpdate) (w : FullWorld) (action : FullAction) (c : FullCluster) : Type 0 where

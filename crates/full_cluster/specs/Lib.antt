@@ -8,5 +8,6 @@ pub mod Orders
 pub mod FullQueues
 pub mod FullMachines
 pub mod FullClusters
+pub mod FullStarts
 pub mod FullEvents
 pub mod Updating

@@ -1,13 +1,14 @@
 //! All machines of a run, with the links between them, on one thread.
-ghost use Rattle.std.specs.Prelude.{◌≡◌, ℕ, OnOk, OnErr, IsErrOf};
+ghost use Rattle.std.specs.Prelude.{◌≡◌, ℕ, ◌+◌, ◌-◌, ◌^◌, ◌<◌, OnOk, OnErr, IsErrOf};
 ghost use Rattle.cluster_laws.specs.cluster_core.Settings.{Setting};
 ghost use Rattle.full_scope.specs.FullUpdates.{FullUpdate};
-ghost use Rattle.full_laws.specs.FullActions.{Admits, Delivers, Grants, MayHappenFull, Sends};
+ghost use Rattle.full_laws.specs.FullActions.{Admits, Delivers, Grants, MayHappenFull, Sends, Updates};
 ghost use Rattle.full_laws.specs.FullWorlds.{FullWorld};
-ghost use Rattle.full_cluster.specs.FullClusters.{HasApplied, IsCluster, IsClusterOf, IsSettingOf};
+ghost use Rattle.full_cluster.specs.FullClusters.{HasApplied, IsCluster, IsClusterFor, IsClusterOf, IsSettingOf};
 
-use crate::{Division, FullMachine, FullQueues, FullTerms};
-use gl_base::{MachineNo, Refused, Vertex};
+use crate::{Division, FullMachine, FullQueues, FullTerms, FullTickets};
+use full_scope::FullProgram;
+use gl_base::{MachineNo, Refused, ScopeId, Vertex};
 use std::alloc::Global;
 
 /// The machines of a run by their numbers, the links from each to all others, the next ticket, and
@@ -157,5 +158,60 @@ impl FullCluster {
             return Err(Refused::NotNow);
         }
         self.machines[place].deliver(alloc, division, &mut self.links[source])
+    }
+
+    /// The update of a scope is made at its home, under the next ticket. `NotNow` comes exactly where
+    /// the cluster of the model may not make this event, and after an error the cluster is unchanged.
+    pub fn update<P: FullProgram>(
+        &mut self,
+        alloc: Global,
+        division: &Division<'_>,
+        terms: FullTerms,
+        program: &P,
+        scope: ScopeId,
+    ) -> Result<(), Refused>
+        requires cluster { IsClusterFor division.now terms (P.meaning program.now) self.old }
+        ensures cluster { IsClusterFor division.now terms (P.meaning program.now) self.new }
+        ensures applied { (st : Setting) (w : FullWorld) → IsSettingOf st division.now terms →
+            IsClusterOf st (P.meaning program.now) w self.old →
+            OnOk result (HasApplied st (P.meaning program.now) w (Updates scope) self.new) }
+        ensures not_now { (st : Setting) (p : FullUpdate) (w : FullWorld) →
+            IsSettingOf st division.now terms → IsClusterOf st p w self.old →
+            IsErrOf result Refused.NotNow → MayHappenFull st w (Updates scope) → ⊥ }
+        ensures no_memory { (st : Setting) (p : FullUpdate) (w : FullWorld) →
+            IsSettingOf st division.now terms → IsClusterOf st p w self.old →
+            IsErrOf result Refused.NoMemory → MayHappenFull st w (Updates scope) }
+        ensures unchanged { (st : Setting) (p : FullUpdate) (w : FullWorld) →
+            IsSettingOf st division.now terms → IsClusterOf st p w self.old →
+            OnErr result (IsClusterOf st p w self.new) }
+    {
+        let place = scope.home.0 as usize;
+        if place >= self.machines.len() {
+            return Err(Refused::NotNow);
+        }
+        let tickets = FullTickets {
+            next: self.next,
+            left: self.left,
+        };
+        match self.machines[place].update(alloc, division, terms, program, scope, tickets) {
+            Ok(()) => {
+                self.draw();
+                Ok(())
+            }
+            Err(refused) => Err(refused),
+        }
+    }
+
+    /// The next ticket is drawn.
+    fn draw(&mut self)
+        requires some { 0 < self.old.left }
+        requires few { self.old.next + self.old.left < 2 ^ 64 }
+        ensures { self.new ≡ record self.old {
+          next = self.old.next + 1;
+          left = self.old.left - 1;
+        } }
+    {
+        self.next += 1;
+        self.left -= 1;
     }
 }

@@ -4,6 +4,7 @@
 
 mod admitting;
 mod arriving;
+mod beginning;
 mod clusters;
 mod divisions;
 mod events;
@@ -25,6 +26,7 @@ mod updating;
 mod ways;
 
 pub use admitting::FullTerms;
+pub use beginning::start_values;
 pub use clusters::FullCluster;
 pub use divisions::Division;
 pub use events::FullEvent;
