@@ -18,6 +18,7 @@ mod locks;
 mod machines;
 mod messages;
 mod queues;
+mod reading;
 mod rows;
 mod scope_maps;
 mod sending;
