@@ -21,7 +21,7 @@ use std::alloc::Global;
 use std::sync::Wait;
 use std::thread::Threads;
 use update_api::Program;
-use wire_board::play_on_board;
+use wire_board::{Receipt, play_on_board};
 
 /// As often as a call may pause.
 const MOST_PAUSES: u32 = 1000000;
@@ -136,24 +136,21 @@ fn opened_trace<P: Program>(
     }
     let (trace, so_far) = play_on_board(alloc, outcome?, None, FIRST_ROUNDS)?;
     let (trace, receipt) = play_on_board(alloc, trace, so_far, MOST_ROUNDS)?;
-    let entries = match &receipt {
-        Some(receipt) => receipt.entries(),
-        None => &[],
-    };
-    let trouble = if entries.is_empty() {
-        Some("no update is made on the board")
-    } else if !are_made(&trace, entries) {
-        Some("the receipt has not the updates that were made")
-    } else {
-        None
-    };
+    let is_whole = has_all(&trace, &receipt);
     drop(receipt);
-    match trouble {
-        Some(why) => {
-            drop(trace);
-            Err(Trouble::Because(why))
-        }
-        None => Ok(trace),
+    if !is_whole {
+        drop(trace);
+        return Err(Trouble::Because("the receipt of a board has not the updates that were made"));
+    }
+    Ok(trace)
+}
+
+/// Whether there is a receipt, with some update and with all that the machines have made in this
+/// attempt, by ticket.
+fn has_all<M: SavingMachine>(trace: &Trace<M>, receipt: &Option<Receipt>) -> bool {
+    match receipt {
+        Some(receipt) => !receipt.entries().is_empty() && are_made(trace, receipt.entries()),
+        None => false,
     }
 }
 
