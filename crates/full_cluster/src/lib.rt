@@ -1,5 +1,6 @@
-//! Parts of a machine whose updates write their whole scopes: its locks, the numbers that it
-//! keeps, an update on these, and what the update gives another machine.
+//! Machines whose updates write their whole scopes: their locks, the numbers that they keep, an
+//! update on these and what it gives other machines, and the cluster of all of them with the links
+//! between them.
 #![tactic(auto)]
 
 mod admitting;

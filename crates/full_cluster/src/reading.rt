@@ -6,11 +6,11 @@ ghost use Rattle.full_scope.specs.FullUpdates.{FullUpdate};
 ghost use Rattle.full_laws.specs.FullParts.{FullPart};
 ghost use Rattle.full_laws.specs.FullWorlds.{FullWorld};
 ghost use Rattle.full_laws.specs.Items.{keeps, AnEdge, AVertex};
-ghost use Rattle.full_cluster.specs.FullClusters.{IsClusterOf, IsFullSeat};
+ghost use Rattle.full_cluster.specs.FullClusters.{IsClusterOf, IsFullSeat, IsLinkOf};
 ghost use Rattle.full_cluster.specs.FullMachines.{IsMachineOf};
 ghost use Rattle.full_cluster.specs.Given.{is_marked};
 
-use crate::{FullCluster, FullMachine};
+use crate::{FullCluster, FullMachine, FullQueues};
 use gl_base::{EdgeNo, Entry, MachineNo, Vertex};
 
 impl FullCluster {
@@ -26,6 +26,29 @@ impl FullCluster {
             return None;
         }
         Some(&self.machines[place])
+    }
+
+    /// The links from a machine to all; `None` exactly where there are not so many.
+    pub fn links_from(&self, a: MachineNo) -> Option<&FullQueues>
+        ensures some { (st : Setting) (p : FullUpdate) (w : FullWorld) →
+            IsClusterOf st p w self.now →
+            IfSome result (λ links. IsLinkOf st links.now (w.link a.0)) }
+        ensures none { (st : Setting) (p : FullUpdate) (w : FullWorld) →
+            IsClusterOf st p w self.now → result ≡ None → st.machines ≤ a.0 }
+    {
+        let place = a.0 as usize;
+        if place >= self.links.len() {
+            return None;
+        }
+        Some(&self.links[place])
+    }
+
+    /// How many more updates may be made.
+    pub fn tickets_left(&self) -> u64
+        ensures { (st : Setting) (p : FullUpdate) (w : FullWorld) →
+            IsClusterOf st p w self.now → result ≡ w.left }
+    {
+        self.left
     }
 }
 
