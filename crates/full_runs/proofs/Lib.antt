@@ -3,3 +3,8 @@ pub mod CountLemmas
 pub mod SoFarLemmas
 pub mod EndLemmas
 pub mod PairLemmas
+pub mod TicketLemmas
+pub mod QuietLemmas
+pub mod DriveLemmas
+pub mod ReadLemmas
+pub mod HandOver

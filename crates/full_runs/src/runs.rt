@@ -1,20 +1,18 @@
-//! Runs of one update after another.
-ghost use Rattle.std.specs.Prelude.{◌≡◌, ℕ, ◌+◌, ◌<◌, true, false, [], length, All, IfOk, OnOk};
-ghost use Rattle.graph_core.specs.DataGraph.{size, IsDataGraph};
-ghost use Rattle.seq_run.specs.Runs.{AreNumbers};
-ghost use Rattle.task_sets.specs.vertex_queue.Flags.{is_flagged};
-ghost use Rattle.full_scope.specs.FullStates.{full_start};
+//! Whole runs.
+ghost use Rattle.std.specs.Prelude.{◌≡◌, ◌<◌, ◌≤◌, length, All, IfOk};
 ghost use Rattle.full_cluster.specs.Owners.{owner_in};
 ghost use Rattle.full_runs.specs.FullEnds.{RunsFullyTo};
 ghost use Rattle.full_runs.specs.Inner.SoFar.{AreSoFar};
 
-use crate::tasks::retask;
-use full_cluster::{Division, update_at};
+use crate::driving::drive;
+use crate::gathering::gather;
+use crate::so_far::SoFar;
+use full_cluster::{Division, FullCluster, FullTerms};
 use full_scope::FullProgram;
 use gl_base::{Entry, NoMemory, Vertex};
-use graph_core::Graph;
+use gl_outside::Gate;
 use std::alloc::Global;
-use task_sets::vertex_queue::VertexQueue;
+use std::sync::Wait;
 
 /// What a run leaves: the order of its updates, the numbers of the vertices and of the edges, and a
 /// task that is left, if there is one.
@@ -26,129 +24,50 @@ pub struct FullEnd {
     pub left: Option<Vertex>,
 }
 
-/// A run so far: the order of its updates, what this makes of the numbers, and the tasks that it
-/// leaves.
-#[derive(Drop)]
-struct SoFar {
-    order: Vec<Entry>,
-    values: Vec<u64>,
-    edges: Vec<u64>,
-    tasks: VertexQueue,
-}
-
-/// Runs a program until no task is left, but makes no more than `budget` updates. Vertices wait in
-/// ascending order, first in, first out, and the order tells that its owner updates each vertex.
-pub fn run_full<P: FullProgram>(
+/// Runs a program until no task is left, but makes no more than `budget` updates: on the machines of
+/// the division, where there is more than one, and one after another on one. The gate is passed as
+/// each update begins. What the machines leave, if anything, is updated one after another; that they
+/// leave nothing while the budget lasts isn't proved.
+pub fn run_full<R: Wait, P: FullProgram, G: Gate>(
+    rt: &R,
     alloc: Global,
     division: &Division<'_>,
+    terms: FullTerms,
     program: &P,
+    gate: &G,
     budget: u64,
 ) -> Result<FullEnd, NoMemory>
+    requires low { All (λ m. m.0 < terms.machines) division.now.owner.now }
     ensures { IfOk result (λ end.
         RunsFullyTo division.now.graph.now (P.meaning program.now)
         (owner_in division.now.owner.now) budget
         end.order.items end.values.items end.edges.items end.left) }
 {
-    let mut run = SoFar::new(alloc, division.graph, program)?;
-    for _made in 0..budget {
-        let Some(vertex) = run.tasks.front() else {
-            return Ok(run.ended(None));
-        };
-        run.update(alloc, division, program, vertex)?;
-    }
-    let left = run.tasks.front();
-    Ok(run.ended(left))
+    let run = run_machines(rt, alloc, division, terms, program, gate, budget)?;
+    run.finish(alloc, division, program, gate, budget)
 }
 
-impl SoFar {
-    /// A run before its first update: every vertex is a task.
-    fn new<P: FullProgram>(alloc: Global, graph: &Graph, program: &P) -> Result<SoFar, NoMemory>
-        ensures so_far { (owner : ℕ → ℕ) → IfOk result (λ run.
-            AreSoFar graph.now (P.meaning program.now) owner
-            run.order.items run.values.items run.edges.items run.tasks) }
-        ensures none { IfOk result (λ run. run.order.items ≡ []) }
-    {
-        let values = start_values(alloc, graph, program)?;
-        let mut tasks = VertexQueue::none(alloc, graph.n())?;
-        tasks.add_all(graph.n());
-        Ok(SoFar {
-            order: Vec::new(alloc),
-            values,
-            edges: Vec::from_elem(alloc, 0, graph.m() as usize)?,
-            tasks,
-        })
-    }
-
-    /// Makes the update of a task, by the owner of the vertex.
-    fn update<P: FullProgram>(
-        &mut self,
-        alloc: Global,
-        division: &Division<'_>,
-        program: &P,
-        v: Vertex,
-    ) -> Result<(), NoMemory>
-        requires count { length self.old.values.items ≡ size division.now.graph.now }
-        requires edge_count { length self.old.edges.items
-            ≡ length division.now.graph.now.edges }
-        requires task_count { length self.old.tasks ≡ size division.now.graph.now }
-        requires task { is_flagged self.old.tasks v.0 ≡ true }
-        ensures so_far { let owner = owner_in division.now.owner.now in
-            let p = P.meaning program.now in let g = division.now.graph.now in
-            AreSoFar g p owner
-            self.old.order.items self.old.values.items self.old.edges.items self.old.tasks →
-            OnOk result (AreSoFar g p owner
-            self.new.order.items self.new.values.items self.new.edges.items self.new.tasks) }
-        ensures longer { OnOk result
-            (length self.new.order.items ≡ length self.old.order.items + 1) }
-    {
-        let machine = division.owner_of(v);
-        let woken = update_at(
-            alloc,
-            division,
-            program,
-            v,
-            &mut self.values,
-            &mut self.edges,
-        )?;
-        retask(&mut self.tasks, v, woken, division.graph.halves(v));
-        let ticket = self.order.len() as u64;
-        self.order.push(Entry::Go {
-            ticket,
-            machine,
-            vertex: v,
-        })?;
-        Ok(())
-    }
-
-    /// What the run leaves, where this task is left.
-    fn ended(self, left: Option<Vertex>) -> FullEnd
-        ensures order { result.order ≡ self.order }
-        ensures values { result.values ≡ self.values }
-        ensures edges { result.edges ≡ self.edges }
-        ensures left { result.left ≡ left }
-    {
-        FullEnd {
-            order: self.order,
-            values: self.values,
-            edges: self.edges,
-            left,
-        }
-    }
-}
-
-/// The numbers that the vertices start with.
-fn start_values<P: FullProgram>(
+/// What the machines of the division make of a run, where there is more than one; else a run before
+/// its first update.
+fn run_machines<R: Wait, P: FullProgram, G: Gate>(
+    rt: &R,
     alloc: Global,
-    graph: &Graph,
+    division: &Division<'_>,
+    terms: FullTerms,
     program: &P,
-) -> Result<Vec<u64>, NoMemory>
-    ensures { IfOk result (λ values.
-        AreNumbers (size graph.now)
-        (full_start graph.now (P.meaning program.now)).vertex values.items) }
+    gate: &G,
+    budget: u64,
+) -> Result<SoFar, NoMemory>
+    requires low { All (λ m. m.0 < terms.machines) division.now.owner.now }
+    ensures so_far { IfOk result (λ run. AreSoFar division.now.graph.now
+        (P.meaning program.now) (owner_in division.now.owner.now)
+        run.order.items run.values.items run.edges.items run.tasks) }
+    ensures few { IfOk result (λ run. length run.order.items ≤ budget) }
 {
-    let mut values = Vec::with_capacity(alloc, graph.n() as usize)?;
-    for v in 0..graph.n() {
-        values.push(program.start(graph.id(Vertex(v))))?;
+    if terms.machines < 2 {
+        return SoFar::new(alloc, division.graph, program);
     }
-    Ok(values)
+    let mut cluster = FullCluster::new(alloc, division, terms, program, budget)?;
+    drive(rt, alloc, division, terms, program, gate, &mut cluster)?;
+    gather(alloc, division, terms.machines, &cluster)
 }

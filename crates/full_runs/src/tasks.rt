@@ -25,7 +25,7 @@ pub fn retask(tasks: &mut VertexQueue, v: Vertex, woken: Woken, halves: &[Half])
 }
 
 /// Makes the vertex a task, if this says so.
-fn add_if(tasks: &mut VertexQueue, u: Vertex, is_woken: bool)
+pub(crate) fn add_if(tasks: &mut VertexQueue, u: Vertex, is_woken: bool)
     requires { u.0 < length tasks.old }
     ensures count { length tasks.new ≡ length tasks.old }
     ensures tasks { (x : ℕ) →

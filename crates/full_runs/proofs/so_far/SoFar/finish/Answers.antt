@@ -1,10 +1,10 @@
 use Rattle.std.proofs.Common.{◌≡◌, ◌≤◌, ◌+◌, length, ap, ◌∙◌, arith}
 use Rattle.full_cluster.specs.Owners.{owner_in}
 use Rattle.full_runs.proofs.EndLemmas.{none_left, spent_so}
-use Rattle.full_runs.proofs.runs.run_full.Goals as goal
+use Rattle.full_runs.proofs.so_far.SoFar.finish.Goals as goal
 
 pub loop-made-init : goal.loop-made-init
-loop-made-init g c = record { so_far = c.in_ok-run.ensures.so_far (owner_in c.args.division.now.owner.now); long = ap length c.in_ok-run.ensures.none }
+loop-made-init g c = record { so_far = c.requires.so_far; long = let there = c.args.self.order.ok in omega (arith, c.len-first.ensures, there) }
 
 pub loop-made-preserved : goal.loop-made-preserved
 loop-made-preserved g c =

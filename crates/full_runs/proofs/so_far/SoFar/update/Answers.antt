@@ -10,7 +10,7 @@ use Rattle.full_cluster.specs.Owners.{owner_in}
 use Rattle.full_cluster.specs.Written.{state_in}
 use Rattle.full_runs.proofs.SoFarLemmas.{one_more}
 use Rattle.full_runs.proofs.TaskLemmas.{ends_low, flagged_low, woken_by_is}
-use Rattle.full_runs.proofs.runs.SoFar.update.Goals as goal
+use Rattle.full_runs.proofs.so_far.SoFar.update.Goals as goal
 
 pub retask-requires-clause-ends : goal.retask-requires-clause-ends
 retask-requires-clause-ends g c = ends_low c.args.division.now.graph.now c.args.division.now.built c.args.v.0 c.halves.result.now c.halves.ensures (length c.args.self.now.tasks) c.requires.task_count

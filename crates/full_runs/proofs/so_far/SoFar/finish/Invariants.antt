@@ -1,7 +1,7 @@
 use Rattle.std.proofs.Common.{◌≡◌, length}
 use Rattle.full_cluster.specs.Owners.{owner_in}
 use Rattle.full_runs.specs.Inner.SoFar.{AreSoFar}
-use Rattle.full_runs.proofs.runs.run_full.Given as goal
+use Rattle.full_runs.proofs.so_far.SoFar.finish.Given as goal
 
 abbrev pub invariant-loop-made : goal.invariant-loop-made
 invariant-loop-made g l =
