@@ -16,11 +16,13 @@ mod leading;
 mod locks;
 mod matched;
 mod messages;
+mod paired;
 mod pipes;
 mod placed;
 mod plain_locks;
 mod plain_pipes;
 mod plain_tasks;
+mod played;
 mod samples;
 mod series;
 mod sizes;
@@ -41,16 +43,19 @@ use leading::print_leading;
 use locks::print_locks;
 use matched::print_matched;
 use messages::print_messages;
+use paired::print_paired;
 use pipes::print_pipes;
 use placed::print_placed;
 use plain_locks::print_random_locks;
 use plain_pipes::print_random_pipes;
 use plain_tasks::print_random_tasks;
+use played::print_played;
 use sizes::print_sizes;
 use snaps::print_snaps;
 use starts::print_starts;
 use std::alloc::Global;
 use std::io;
+use std::sync::Wait;
 use stops::{print_failing_calls, print_stopped_calls};
 use store_edits::print_edits;
 use tasks::print_tasks;
@@ -60,6 +65,7 @@ use wholes::print_wholes;
 
 fn main(rt: HostRuntime) -> io::Result<()> {
     print_parts(&rt, rt.alloc())?;
+    print_whole_scopes(&rt, rt.alloc())?;
     print_stores(&rt, rt.alloc())?;
     print_random_locks(&rt, rt.alloc())?;
     print_random_pipes(&rt, rt.alloc())?;
@@ -77,9 +83,14 @@ fn print_parts(rt: &impl Print, alloc: Global) -> io::Result<()> {
     print_snaps(rt, alloc)?;
     print_held(rt, alloc)?;
     print_update(rt, alloc)?;
-    print_placed(rt, alloc)?;
+    print_placed(rt, alloc)
+}
+
+fn print_whole_scopes<R: Print + Wait>(rt: &R, alloc: Global) -> io::Result<()> {
     print_wholes(rt, alloc)?;
-    print_matched(rt, alloc)
+    print_matched(rt, alloc)?;
+    print_paired(rt, alloc)?;
+    print_played(rt, alloc)
 }
 
 fn print_stores(rt: &impl Print, alloc: Global) -> io::Result<()> {

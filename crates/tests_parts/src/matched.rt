@@ -1,26 +1,21 @@
-//! Pairs on lines of vertices, worked out by hand: an update on all numbers, one at its home and
-//! what it gives another machine, and whole runs.
+//! Pairs on a line of vertices, worked out by hand: an update on all numbers, one at its home and
+//! what it gives another machine, and the locks and machines of a scope.
 ghost use Rattle.std.specs.Prelude.{◌≡◌, length, IfOk};
 
 use crate::graphs::graph_of;
 use full_cluster::{Division, KeptNumbers, update_at};
-use full_runs::{counts_by_machine, run_full};
 use gl_base::{INF, MachineNo, NoMemory, Vertex};
 use graph_core::Graph;
 use prog_match::Pairs;
 use std::alloc::Global;
 use std::io;
 
-/// Prints the numbers of vertices 1 to 4 in a line after updates there, and what runs leave of two
-/// edges and a vertex apart.
+/// Prints the numbers of vertices 1 to 4 in a line after updates there, and which locks and
+/// machines the scope of one takes.
 pub fn print_matched(rt: &impl Print, alloc: Global) -> io::Result<()> {
     match graph_of(alloc, &[1, 2, 3, 4], &[(1, 2), (2, 3), (3, 4)], false) {
-        Ok(line) => print_line(rt, alloc, &line)?,
-        Err(fault) => println!(rt; "line of four: {fault}")?,
-    }
-    match graph_of(alloc, &[1, 2, 3, 4, 5], &[(1, 2), (3, 4)], false) {
-        Ok(apart) => print_runs(rt, alloc, &apart),
-        Err(fault) => println!(rt; "two edges: {fault}"),
+        Ok(line) => print_line(rt, alloc, &line),
+        Err(fault) => println!(rt; "line of four: {fault}"),
     }
 }
 
@@ -137,46 +132,10 @@ fn print_numbers(rt: &impl Print, place: &str, numbers: &[u64], edges: &[u64]) -
     println!(rt; ", edges {edges:?}")
 }
 
-fn print_number(rt: &impl Print, number: u64) -> io::Result<()> {
+/// Prints the number of a vertex, where an unmatched one has none.
+pub fn print_number(rt: &impl Print, number: u64) -> io::Result<()> {
     if number == INF {
         return print!(rt; " none");
     }
     print!(rt; " {number}")
-}
-
-/// Prints what is left of a run with an update for each vertex, and of one with one less.
-fn print_runs(rt: &impl Print, alloc: Global, apart: &Graph) -> io::Result<()> {
-    let (low, high) = (MachineNo(0), MachineNo(1));
-    let owner = [low, low, low, high, high];
-    let Some(division) = Division::new(apart, &owner) else {
-        return println!(rt; "two edges: not five vertices");
-    };
-    for budget in [5, 4] {
-        print_run(rt, alloc, &division, budget)?;
-    }
-    Ok(())
-}
-
-fn print_run(
-    rt: &impl Print,
-    alloc: Global,
-    division: &Division<'_>,
-    budget: u64,
-) -> io::Result<()> {
-    let Ok(end) = run_full(alloc, division, &Pairs, budget) else {
-        return println!(rt; "two edges, budget {budget}: no memory");
-    };
-    print!(rt; "two edges, budget {budget}:")?;
-    for number in &end.values {
-        print_number(rt, *number)?;
-    }
-    print!(rt; ", edges {:?}, ", end.edges)?;
-    match end.left {
-        Some(vertex) => print!(rt; "vertex {} left", vertex.0)?,
-        None => print!(rt; "none left")?,
-    }
-    match counts_by_machine(alloc, 2, &end.order) {
-        Ok(done) => println!(rt; ", updates {done:?}"),
-        Err(fault) => println!(rt; ", updates: {fault}"),
-    }
 }
