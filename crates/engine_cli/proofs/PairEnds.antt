@@ -2,6 +2,7 @@
 use Rattle.std.proofs.Common.{◌≡◌, ◌≤◌, ◌<◌, ◌+◌, ◌*◌, ◌==◌, ◌&&◌, not, ℕ, Bool, true, List, [], ◌∷◌, length, All, Option, None, Some, sym, ◌∙◌, subst, ⊎_elim, arith}
 use Rattle.std.specs.List.{AllByRecursion}
 use Rattle.std.proofs.lemmas.Bool.{and_parts, ltb-true, or_cases}
+use Rattle.std.proofs.lemmas.List.Elements.{All-from_get_or}
 use Rattle.gl_base.specs.declared.entries.Entry.{Entry}
 use Rattle.gl_base.specs.declared.entries.Entry.TheVariants.{Go, Restart}
 use Rattle.gl_base.specs.declared.jobs.Algorithm.{Algorithm}
@@ -18,6 +19,7 @@ use Rattle.placement.specs.declared.plans.runs.RunPlan.{RunPlan}
 use Rattle.placement.specs.graphs.Placed.{placed_owner}
 use Rattle.placement.specs.plans.Plans.{IsPlaced}
 use Rattle.placement.specs.plans.Plays.{CountsByMachine, IsPlacement}
+use Rattle.placement.proofs.places.OwnerLemmas.{owner_low}
 use Rattle.seq_run.specs.Orders.{MayCome, all_tasks}
 use Rattle.seq_run.specs.States.{GraphState}
 use Rattle.seq_run.specs.StepBound.{step_bound}
@@ -64,6 +66,15 @@ module _ (g : DataGraph) (p : FullUpdate) (is : IsDataGraph g) where
 
   pub entries-within : (order : List Entry) → IsFullyValid g p order → AllByRecursion (IsEntryOf g) order
   entries-within order valid = each-within (full_start g p) (all_tasks g) order (λ u task. ltb-true u (size g) task) valid
+
+-- ---- each owner is one of the machines
+
+pub owners-low : (g : DataGraph) (cut : Cut) (plan : RunPlan) (placed : Placement) (owner : List MachineNo) → IsPlaced g cut plan placed → length owner ≡ length placed.of.items →
+    ((v : ℕ) → v < length placed.of.items → owner_in owner v ≡ placed_owner placed.of.items placed.owner.items v) → All (λ (m : MachineNo). m.0 < plan.machines) owner
+owners-low g cut plan placed owner at count each =
+    All-from_get_or (λ (m : MachineNo). m.0 < plan.machines) owner (record { 0 = 0 }) (λ v inside.
+    let low : v < length placed.of.items = omega (arith, count, inside) in
+    subst (λ (n : ℕ). n < plan.machines) (sym (each v low)) (owner_low g plan.machines placed.of.items placed.owner.items at.each at.atoms at.machines v (omega (arith, at.each, low))))
 
 -- ---- the owner of its vertex made each update, by whichever list of owners
 

@@ -1,4 +1,4 @@
-//! Runs pairs on a job's graph, one update after another.
+//! Runs pairs on a job's graph, on the job's machines.
 ghost use Rattle.std.specs.Prelude.{◌≡◌, ℕ, ◌<◌, false, [], length, None, All, IfOk};
 ghost use Rattle.full_cluster.specs.Owners.{owner_in};
 ghost use Rattle.gl_base.specs.declared.jobs.Algorithm.TheVariants.{Pairs as OfPairs};
@@ -13,20 +13,29 @@ ghost use Rattle.engine_cli.specs.Pairings.{RunsOfPairs};
 
 use crate::playing::plan_of;
 use engine_runs::answers::{StoredEnd, StoredRun};
-use full_cluster::Division;
+use full_cluster::{Division, FullTerms};
 use full_runs::{FullEnd, counts_by_machine, run_full};
 use gl_base::{Job, MachineNo, NoMemory, Vertex};
+use gl_outside::Gate;
 use graph_atoms::atom_gather::Cut;
 use graph_core::Graph;
 use placement::graphs::Placement;
 use placement::plans::placement_of;
 use prog_match::Pairs;
 use std::alloc::Global;
+use std::sync::Wait;
 
-/// Matches the vertices of the graph in pairs. It is cut so and placed, and each update is its
-/// vertex's machine's, but all are made here, one after another. The job has no store and orders no
-/// failure.
-pub fn run_pairs(alloc: Global, graph: &Graph, cut: &Cut, job: &Job) -> Result<StoredRun, NoMemory>
+/// Matches the vertices of the graph in pairs, on the job's machines. It is cut so and placed, and
+/// each update is its vertex's machine's. The job has no store and orders no failure. As each update
+/// begins, the gate is passed.
+pub fn run_pairs<R: Wait, G: Gate>(
+    rt: &R,
+    alloc: Global,
+    graph: &Graph,
+    cut: &Cut,
+    job: &Job,
+    gate: &G,
+) -> Result<StoredRun, NoMemory>
     requires graph { IsDataGraph graph.now }
     requires undirected { graph.now.directed ≡ false }
     requires cut { CanBeCut graph.now cut.now }
@@ -41,12 +50,13 @@ pub fn run_pairs(alloc: Global, graph: &Graph, cut: &Cut, job: &Job) -> Result<S
     let Some(division) = Division::new(graph, &owner) else {
         unreachable!();
     };
+    let terms = terms_of(job);
     let FullEnd {
         order,
         values,
         left,
         ..
-    } = run_full(alloc, &division, &Pairs, job.budget)?;
+    } = run_full(rt, alloc, &division, terms, &Pairs, gate, job.budget)?;
     let done = counts_by_machine(alloc, job.machines, &order)?;
     Ok(StoredRun {
         order,
@@ -57,6 +67,19 @@ pub fn run_pairs(alloc: Global, graph: &Graph, cut: &Cut, job: &Job) -> Result<S
         numbers: values,
         end: end_of(left),
     })
+}
+
+/// How many machines the job has, and how many scopes of each may be in flight.
+fn terms_of(job: &Job) -> FullTerms
+    ensures { result ≡ record {
+      machines = job.now.machines;
+      pipeline = job.now.pipeline;
+    } }
+{
+    FullTerms {
+        machines: job.machines,
+        pipeline: u64::from(job.pipeline),
+    }
 }
 
 /// The machine of each vertex: that of its atom.

@@ -18,7 +18,7 @@ use crate::storing::run_on_store;
 use crate::{Ended, Status};
 use engine_runs::answers::{StoredEnd, StoredRun};
 use gl_base::{Algorithm, Job, NoMemory};
-use gl_outside::{Files, Sink};
+use gl_outside::{Files, Gate, Sink};
 use graph_core::Graph;
 use graph_text::generate::Writing;
 use job_io::job_files::{Input, JobVerb, read_run_input};
@@ -52,13 +52,15 @@ pub struct Prepared {
 }
 
 /// Reads the job and its graph, runs the job's algorithm, from the job's store and into it where it
-/// names one, and writes the order of its updates and the numbers of the vertices.
-pub fn run_job<R: Threads + Wait + Sync, F: Files, K: Sink>(
+/// names one, and writes the order of its updates and the numbers of the vertices. As each update of
+/// pairs begins, the gate is passed.
+pub fn run_job<R: Threads + Wait + Sync, F: Files, K: Sink, G: Gate>(
     rt: &R,
     alloc: Global,
     asked: &RunAsked<'_>,
     files: &mut F,
     out: &mut K,
+    gate: &G,
 ) -> RunEnd
     requires { IsOfRun asked.now.verb }
     ensures run { IsRun F.disks_observable asked.now.verb asked.now.file.now asked.now.is_reported
@@ -70,7 +72,7 @@ pub fn run_job<R: Threads + Wait + Sync, F: Files, K: Sink>(
     ensures frame { KeepsFiles (F.state files.old) (F.state files.new) ×
         KeepsSink K.same K.faults out.old out.new }
 {
-    let prepared = match prepare(rt, alloc, asked.verb, asked.file, files) {
+    let prepared = match prepare(rt, alloc, asked.verb, asked.file, files, gate) {
         Ok(prepared) => prepared,
         Err(status) => return refused(alloc, status),
     };
@@ -85,12 +87,13 @@ pub fn run_job<R: Threads + Wait + Sync, F: Files, K: Sink>(
 }
 
 /// Reads the job and its graph, and runs the job's algorithm.
-fn prepare<R: Threads + Wait + Sync, F: Files>(
+fn prepare<R: Threads + Wait + Sync, F: Files, G: Gate>(
     rt: &R,
     alloc: Global,
     asked: JobVerb,
     file: &str,
     files: &mut F,
+    gate: &G,
 ) -> Result<Prepared, Status>
     requires { IsOfRun asked }
     ensures answer { IsPrepared F.disks_observable asked (F.state files.old)
@@ -106,7 +109,7 @@ fn prepare<R: Threads + Wait + Sync, F: Files>(
     ensures later { (F.state files.old).sources.faults ≤ (F.state files.new).sources.faults }
 {
     let input = read_run_input(alloc, files, file, asked)?;
-    match run_input(rt, alloc, asked, files, &input) {
+    match run_input(rt, alloc, asked, files, &input, gate) {
         Ok(run) => Ok(Prepared {
             job: input.job,
             graph: input.graph,
@@ -116,13 +119,15 @@ fn prepare<R: Threads + Wait + Sync, F: Files>(
     }
 }
 
-/// Runs the job's algorithm: pairs as a whole, and every other one by scopes.
-fn run_input<R: Threads + Wait + Sync, F: Files>(
+/// Runs the job's algorithm: pairs on machines whose updates write their whole scopes, and every
+/// other one on those of an engine.
+fn run_input<R: Threads + Wait + Sync, F: Files, G: Gate>(
     rt: &R,
     alloc: Global,
     asked: JobVerb,
     files: &mut F,
     input: &Input,
+    gate: &G,
 ) -> Result<StoredRun, StoreError>
     requires { CanRun input.now }
     ensures made { IfOk result
@@ -134,10 +139,12 @@ fn run_input<R: Threads + Wait + Sync, F: Files>(
     ensures used { UsesNamed input.now.job.store (F.state files.old) (F.state files.new) }
 {
     match input.job.algorithm {
-        Algorithm::Pairs => match run_pairs(alloc, &input.graph, &input.cut, &input.job) {
-            Ok(run) => Ok(run),
-            Err(NoMemory) => Err(StoreError::NoMemory),
-        },
+        Algorithm::Pairs => {
+            match run_pairs(rt, alloc, &input.graph, &input.cut, &input.job, gate) {
+                Ok(run) => Ok(run),
+                Err(NoMemory) => Err(StoreError::NoMemory),
+            }
+        }
         Algorithm::Levels | Algorithm::Components | Algorithm::Paths => {
             run_by_scopes(rt, alloc, asked, files, input)
         }

@@ -42,7 +42,8 @@ use std::thread::Threads;
 /// The words are refused first, then the job's file, what it says, a key that the verb needs, the
 /// vertex file, the edge file, a source that is no vertex, the index and the atoms, the store, and
 /// a run that left a task; then the order's file and `out` are written, and last one line to `note`
-/// for every status but `Done`. A fault of `note` is passed over. `gate` is not passed yet.
+/// for every status but `Done`. A fault of `note` is passed over. `gate` is passed as each update of
+/// pairs begins, and by no other update.
 ///
 /// The lists tell of the run where one was made: at `Done`, `WriteFault`, `BudgetSpent`,
 /// `SnapshotsFull`, and at `DiskFault` where that came in the run. Else they are empty. A run on
@@ -88,20 +89,21 @@ pub fn engine<R: Threads + Wait + Sync, F: Files, K: Sink, N: Sink, G: Gate + Sy
         KeepsSink N.same N.faults note.old note.new }
 {
     match read_words(alloc, words) {
-        Ok(asked) => do_command(rt, alloc, &asked, files, out, note),
+        Ok(asked) => do_command(rt, alloc, &asked, files, out, note, gate),
         Err(WordsReading::Fault(fault)) => no_run(alloc, refuse(note, Status::Usage(fault))),
         Err(WordsReading::NoMemory) => no_run(alloc, refuse(note, Status::NoMemory)),
     }
 }
 
 /// Does what the command line asks.
-fn do_command<R: Threads + Wait + Sync, F: Files, K: Sink, N: Sink>(
+fn do_command<R: Threads + Wait + Sync, F: Files, K: Sink, N: Sink, G: Gate>(
     rt: &R,
     alloc: Global,
     asked: &Words,
     files: &mut F,
     out: &mut K,
     note: &mut N,
+    gate: &G,
 ) -> Ended
     requires { IsAsked asked.now }
     ensures verb { IsCall F.disks_observable asked.now
@@ -126,7 +128,7 @@ fn do_command<R: Threads + Wait + Sync, F: Files, K: Sink, N: Sink>(
                 file: file.as_str(),
                 is_reported: *report,
             };
-            run_file(rt, alloc, &asked, files, out, note)
+            run_file(rt, alloc, &asked, files, out, note, gate)
         }
         Words::Resume { file, report } => {
             let asked = RunAsked {
@@ -134,7 +136,7 @@ fn do_command<R: Threads + Wait + Sync, F: Files, K: Sink, N: Sink>(
                 file: file.as_str(),
                 is_reported: *report,
             };
-            run_file(rt, alloc, &asked, files, out, note)
+            run_file(rt, alloc, &asked, files, out, note, gate)
         }
         Words::Make { .. } => no_run(alloc, files_only(alloc, asked, files, out, note)),
         Words::Cut { .. } => no_run(alloc, files_only(alloc, asked, files, out, note)),
@@ -143,13 +145,14 @@ fn do_command<R: Threads + Wait + Sync, F: Files, K: Sink, N: Sink>(
 }
 
 /// Runs the job in a file, and tells what is reported of it or why it was refused.
-fn run_file<R: Threads + Wait + Sync, F: Files, K: Sink, N: Sink>(
+fn run_file<R: Threads + Wait + Sync, F: Files, K: Sink, N: Sink, G: Gate>(
     rt: &R,
     alloc: Global,
     asked: &RunAsked<'_>,
     files: &mut F,
     out: &mut K,
     note: &mut N,
+    gate: &G,
 ) -> Ended
     requires { IsOfRun asked.now.verb }
     ensures run { IsRun F.disks_observable asked.now.verb asked.now.file.now asked.now.is_reported
@@ -166,7 +169,7 @@ fn run_file<R: Threads + Wait + Sync, F: Files, K: Sink, N: Sink>(
         KeepsSink K.same K.faults out.old out.new ×
         KeepsSink N.same N.faults note.old note.new }
 {
-    let RunEnd { ended, report } = run_job(rt, alloc, asked, files, out);
+    let RunEnd { ended, report } = run_job(rt, alloc, asked, files, out, gate);
     let Ended {
         status,
         order,
