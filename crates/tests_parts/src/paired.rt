@@ -94,13 +94,25 @@ fn print_run<R: Print + Wait>(
     for number in &end.values {
         print_number(rt, *number)?;
     }
-    print!(rt; ", edges {:?}, ", end.edges)?;
+    print!(rt; ", edges {:?}, order", end.edges)?;
+    for entry in &end.order {
+        print_entry(rt, *entry)?;
+    }
+    print!(rt; ", ")?;
     if end.left.is_some() {
         return println!(rt; "one left, {} updates", end.order.len());
     }
     match counts_by_machine(alloc, 2, &end.order) {
         Ok(done) => println!(rt; "none left, updates {done:?}"),
         Err(fault) => println!(rt; "none left, updates: {fault}"),
+    }
+}
+
+/// Prints the vertex of an update, counted from 1.
+fn print_entry<R: Print>(rt: &R, entry: Entry) -> io::Result<()> {
+    match entry {
+        Entry::Go { vertex, .. } => print!(rt; " {}", vertex.0 as u64 + 1),
+        Entry::Restart { .. } => Ok(()),
     }
 }
 
