@@ -14,20 +14,23 @@ use crate::playing::{plan_of, program_of};
 use engine_runs::answers::{StoredRun, UnstoredInput};
 use engine_runs::run_unstored;
 use gl_base::{Job, NoMemory};
+use gl_outside::Gate;
 use graph_atoms::atom_gather::Cut;
 use graph_core::Graph;
+use graph_programs::gated::Gated;
 use std::alloc::Global;
 use std::sync::Wait;
 use std::thread::Threads;
 
-/// Runs the job's algorithm on the graph, which is cut so, without a store. A machine that fails
-/// takes all back to the start.
-pub fn run_without_store<R: Threads + Wait + Sync>(
+/// Runs the job's algorithm on the graph, which is cut so, without a store. Its updates pass the
+/// gate. A machine that fails takes all back to the start.
+pub fn run_without_store<R: Threads + Wait + Sync, G: Gate + Sync>(
     rt: &R,
     alloc: Global,
     graph: &Graph,
     cut: &Cut,
     job: &Job,
+    gate: &G,
 ) -> Result<StoredRun, NoMemory>
     requires graph { IsDataGraph graph.now }
     requires cut { CanBeCut graph.now cut.now }
@@ -51,5 +54,5 @@ pub fn run_without_store<R: Threads + Wait + Sync>(
         plan,
         engine: job.engine,
     };
-    run_unstored(rt, alloc, &input, program)
+    run_unstored(rt, alloc, &input, Gated { program, gate })
 }

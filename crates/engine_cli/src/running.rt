@@ -52,9 +52,9 @@ pub struct Prepared {
 }
 
 /// Reads the job and its graph, runs the job's algorithm, from the job's store and into it where it
-/// names one, and writes the order of its updates and the numbers of the vertices. As each update of
-/// pairs begins, the gate is passed.
-pub fn run_job<R: Threads + Wait + Sync, F: Files, K: Sink, G: Gate>(
+/// names one, and writes the order of its updates and the numbers of the vertices. As each update
+/// begins, the gate is passed.
+pub fn run_job<R: Threads + Wait + Sync, F: Files, K: Sink, G: Gate + Sync>(
     rt: &R,
     alloc: Global,
     asked: &RunAsked<'_>,
@@ -87,7 +87,7 @@ pub fn run_job<R: Threads + Wait + Sync, F: Files, K: Sink, G: Gate>(
 }
 
 /// Reads the job and its graph, and runs the job's algorithm.
-fn prepare<R: Threads + Wait + Sync, F: Files, G: Gate>(
+fn prepare<R: Threads + Wait + Sync, F: Files, G: Gate + Sync>(
     rt: &R,
     alloc: Global,
     asked: JobVerb,
@@ -121,7 +121,7 @@ fn prepare<R: Threads + Wait + Sync, F: Files, G: Gate>(
 
 /// Runs the job's algorithm: pairs on machines whose updates write their whole scopes, and every
 /// other one on those of an engine.
-fn run_input<R: Threads + Wait + Sync, F: Files, G: Gate>(
+fn run_input<R: Threads + Wait + Sync, F: Files, G: Gate + Sync>(
     rt: &R,
     alloc: Global,
     asked: JobVerb,
@@ -146,19 +146,22 @@ fn run_input<R: Threads + Wait + Sync, F: Files, G: Gate>(
             }
         }
         Algorithm::Levels | Algorithm::Components | Algorithm::Paths => {
-            run_by_scopes(rt, alloc, asked, files, input)
+            run_by_scopes(rt, alloc, asked, files, input, gate)
         }
-        Algorithm::Colours | Algorithm::Cores => run_by_scopes(rt, alloc, asked, files, input),
+        Algorithm::Colours | Algorithm::Cores => {
+            run_by_scopes(rt, alloc, asked, files, input, gate)
+        }
     }
 }
 
 /// Runs the job's algorithm, on its store where the job names one.
-fn run_by_scopes<R: Threads + Wait + Sync, F: Files>(
+fn run_by_scopes<R: Threads + Wait + Sync, F: Files, G: Gate + Sync>(
     rt: &R,
     alloc: Global,
     asked: JobVerb,
     files: &mut F,
     input: &Input,
+    gate: &G,
 ) -> Result<StoredRun, StoreError>
     requires { IsRunnable input.now }
     ensures made { IfOk result
@@ -170,13 +173,13 @@ fn run_by_scopes<R: Threads + Wait + Sync, F: Files>(
     ensures used { UsesNamed input.now.job.store (F.state files.old) (F.state files.new) }
 {
     match &input.job.store {
-        None => match run_without_store(rt, alloc, &input.graph, &input.cut, &input.job) {
+        None => match run_without_store(rt, alloc, &input.graph, &input.cut, &input.job, gate) {
             Ok(run) => Ok(run),
             Err(NoMemory) => Err(StoreError::NoMemory),
         },
         Some(name) => {
             let resumed = is_resumed(asked);
-            run_on_store(rt, alloc, files, name.as_str(), input, resumed)
+            run_on_store(rt, alloc, files, name.as_str(), input, resumed, gate)
         }
     }
 }

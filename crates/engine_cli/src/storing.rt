@@ -16,7 +16,8 @@ ghost use Rattle.engine_cli.specs.Plays.{RunsByScopes, update_of};
 use crate::playing::{plan_of, program_of};
 use engine_runs::answers::{RunInput, StoredPlan, StoredRun};
 use engine_runs::run_stored;
-use gl_outside::{Disk, DiskOf, Files, OpenFault};
+use gl_outside::{Disk, DiskOf, Files, Gate, OpenFault};
+use graph_programs::gated::Gated;
 use job_io::job_files::Input;
 use job_io::job_stores::{StoreError, header_of};
 use std::alloc::Global;
@@ -29,14 +30,15 @@ use update_api::Program;
 /// Opens the job's store in the file of this name, and runs the job's algorithm from it and into
 /// it. `BadStore` comes where its bytes are none of a store for this job and graph, and, unless the
 /// run is resumed, by `Used` where it has snapshots. A store in form that no call leaves may be
-/// refused too, at the byte where it ends.
-pub fn run_on_store<R: Threads + Wait + Sync, F: Files>(
+/// refused too, at the byte where it ends. Updates pass the gate.
+pub fn run_on_store<R: Threads + Wait + Sync, F: Files, G: Gate + Sync>(
     rt: &R,
     alloc: Global,
     files: &mut F,
     name: &str,
     input: &Input,
     resumed: bool,
+    gate: &G,
 ) -> Result<StoredRun, StoreError>
     requires { IsRunnable input.now }
     ensures run { IfOk result
@@ -60,19 +62,21 @@ pub fn run_on_store<R: Threads + Wait + Sync, F: Files>(
         input,
         resumed,
         &mut made,
+        gate,
     );
     made
 }
 
 /// Opens the store on a disk, and runs the job's algorithm from it and into it. `made` gets the run
 /// or why there is none, and the disk is handed back.
-fn run_on_disk<R: Threads + Wait + Sync, D: Disk>(
+fn run_on_disk<R: Threads + Wait + Sync, D: Disk, G: Gate + Sync>(
     rt: &R,
     alloc: Global,
     disk: D,
     input: &Input,
     resumed: bool,
     made: &mut Result<StoredRun, StoreError>,
+    gate: &G,
 ) -> D
     requires { IsRunnable input.now }
     ensures run { IsTrue D.observable →
@@ -90,7 +94,7 @@ fn run_on_disk<R: Threads + Wait + Sync, D: Disk>(
     let header = header_of(&input.job, &input.graph);
     match Journal::open(alloc, disk, &header) {
         Ok(mut journal) => {
-            *made = run_on_journal(rt, alloc, input, &mut journal, resumed);
+            *made = run_on_journal(rt, alloc, input, &mut journal, resumed, gate);
             journal.into_disk()
         }
         Err((fault, disk)) => {
@@ -102,12 +106,13 @@ fn run_on_disk<R: Threads + Wait + Sync, D: Disk>(
 
 /// Runs the job's algorithm from an opened store and into it, which has no snapshots unless the run
 /// is resumed.
-fn run_on_journal<R: Threads + Wait + Sync, D: Disk>(
+fn run_on_journal<R: Threads + Wait + Sync, D: Disk, G: Gate + Sync>(
     rt: &R,
     alloc: Global,
     input: &Input,
     journal: &mut Journal<D>,
     resumed: bool,
+    gate: &G,
 ) -> Result<StoredRun, StoreError>
     requires input { IsRunnable input.now }
     requires graph { IsHeaderOf input.now.graph journal.old.header }
@@ -137,7 +142,7 @@ fn run_on_journal<R: Threads + Wait + Sync, D: Disk>(
         return Err(StoreError::BadStore(StoreFault::Used(count)));
     }
     let program = program_of(&input.job);
-    match run_stored_by(rt, alloc, input, program, journal, resumed) {
+    match run_stored_by(rt, alloc, input, Gated { program, gate }, journal, resumed) {
         Ok(run) => Ok(run),
         Err(fault) => Err(why_not_run_from(fault, length)),
     }

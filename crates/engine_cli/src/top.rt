@@ -42,8 +42,9 @@ use std::thread::Threads;
 /// The words are refused first, then the job's file, what it says, a key that the verb needs, the
 /// vertex file, the edge file, a source that is no vertex, the index and the atoms, the store, and
 /// a run that left a task; then the order's file and `out` are written, and last one line to `note`
-/// for every status but `Done`. A fault of `note` is passed over. `gate` is passed as each update of
-/// pairs begins, and by no other update.
+/// for every status but `Done`. A fault of `note` is passed over.
+///
+/// Each update passes `gate` once as it begins, by the identifier of its vertex. No clause says so.
 ///
 /// The lists tell of the run where one was made: at `Done`, `WriteFault`, `BudgetSpent`,
 /// `SnapshotsFull`, and at `DiskFault` where that came in the run. Else they are empty. A run on
@@ -96,7 +97,7 @@ pub fn engine<R: Threads + Wait + Sync, F: Files, K: Sink, N: Sink, G: Gate + Sy
 }
 
 /// Does what the command line asks.
-fn do_command<R: Threads + Wait + Sync, F: Files, K: Sink, N: Sink, G: Gate>(
+fn do_command<R: Threads + Wait + Sync, F: Files, K: Sink, N: Sink, G: Gate + Sync>(
     rt: &R,
     alloc: Global,
     asked: &Words,
@@ -145,7 +146,7 @@ fn do_command<R: Threads + Wait + Sync, F: Files, K: Sink, N: Sink, G: Gate>(
 }
 
 /// Runs the job in a file, and tells what is reported of it or why it was refused.
-fn run_file<R: Threads + Wait + Sync, F: Files, K: Sink, N: Sink, G: Gate>(
+fn run_file<R: Threads + Wait + Sync, F: Files, K: Sink, N: Sink, G: Gate + Sync>(
     rt: &R,
     alloc: Global,
     asked: &RunAsked<'_>,

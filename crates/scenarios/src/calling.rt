@@ -1,7 +1,8 @@
 //! Calls of the engine over files in memory.
+use crate::gates::CountingGate;
 use crate::stage::{Fault, Held, Stage};
 use engine_cli::{Ended, engine};
-use gl_outside::{MemFiles, MemSink, OpenGate};
+use gl_outside::{MemFiles, MemSink};
 use std::alloc::Global;
 use std::sync::Wait;
 use std::thread::Threads;
@@ -16,6 +17,7 @@ pub struct Left {
     pub files: MemFiles,
     pub out: MemSink,
     pub note: MemSink,
+    pub gate: CountingGate,
 }
 
 /// Makes a call.
@@ -33,12 +35,14 @@ pub fn make_call<R: Threads + Wait + Sync>(
     let mut files = files_of(alloc, stage);
     let mut out = sink_of(alloc, stage, "out", stage.room_of_out);
     let mut note = sink_of(alloc, stage, "note", stage.room_of_note);
-    let ended = engine(rt, alloc, words, &mut files, &mut out, &mut note, &OpenGate);
+    let gate = CountingGate::new(alloc, stage.meeting);
+    let ended = engine(rt, alloc, words, &mut files, &mut out, &mut note, &gate);
     Left {
         ended,
         files,
         out,
         note,
+        gate,
     }
 }
 

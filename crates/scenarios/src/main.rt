@@ -7,6 +7,7 @@
 mod calling;
 mod entries;
 mod escapes;
+mod gates;
 mod playing;
 mod printing;
 mod sections;

@@ -58,7 +58,7 @@ fn add_section(alloc: Global, page: &mut Page, section: &Section<'_>, left: &Lef
         "out" | "note" | "snapshots" => add_output(alloc, page, section, left),
         _ => {
             page.add(section.keyword);
-            add_line(alloc, page, section.keyword, &left.ended);
+            add_line(alloc, page, section.keyword, left);
             page.add("\n");
             echo_remarks(page, section);
         }
@@ -145,11 +145,11 @@ fn are_told(block: &[Section<'_>], word: &str) -> bool {
     false
 }
 
-/// Adds the lists that a call left and that no section speaks of. Of the cause nothing is told
-/// unasked.
+/// Adds the lists that a call left and that no section speaks of. Of the cause, and of the updates
+/// that passed the gate, nothing is told unasked.
 fn add_other_lines(alloc: Global, page: &mut Page, block: &[Section<'_>], left: &Left) {
     for word in LINES.as_slice() {
-        if *word != "cause" && !are_told(block, word) {
+        if !matches!(*word, "cause" | "passed") && !are_told(block, word) {
             add_other_line(alloc, page, word, left);
         }
     }
@@ -158,7 +158,7 @@ fn add_other_lines(alloc: Global, page: &mut Page, block: &[Section<'_>], left: 
 /// Adds what a call tells of a part in one line, unless that is nothing.
 fn add_other_line(alloc: Global, page: &mut Page, word: &str, left: &Left) {
     let mut line = Page::new(alloc);
-    add_line(alloc, &mut line, word, &left.ended);
+    add_line(alloc, &mut line, word, left);
     if !line.as_str().is_empty() {
         page.add(word);
         page.add_line(line.as_str());

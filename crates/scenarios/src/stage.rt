@@ -1,4 +1,5 @@
-//! What is there before a call: files and disks, and what fails.
+//! What is there before a call: files and disks, what fails, and whose updates meet.
+use crate::gates::{COUNTED, Meeting};
 use crate::sections::Section;
 use scenario_lines::{Line, number_of, word_of, words_behind};
 use std::alloc::Global;
@@ -29,6 +30,7 @@ pub struct Stage<'a> {
     pub faults: Vec<Fault<'a>>,
     pub room_of_out: u64,
     pub room_of_note: u64,
+    pub meeting: Option<Meeting>,
 }
 
 impl<'a> Stage<'a> {
@@ -39,6 +41,7 @@ impl<'a> Stage<'a> {
             faults: Vec::new(alloc),
             room_of_out: MUCH_ROOM,
             room_of_note: MUCH_ROOM,
+            meeting: None,
         }
     }
 
@@ -52,6 +55,7 @@ impl<'a> Stage<'a> {
             "missing" => self.hold(section.said, false, None),
             "fail" => self.fail(alloc, section.said),
             "room" => self.set_room(section.said),
+            "meet" => self.meet(section.said),
             _ => false,
         }
     }
@@ -122,6 +126,14 @@ impl<'a> Stage<'a> {
             _ => return false,
         }
         true
+    }
+
+    /// Lets the updates of two vertices wait for each other. Returns whether they can.
+    fn meet(&mut self, said: &str) -> bool {
+        let one = number_of(word_of(said));
+        let other = number_of(words_behind(said));
+        self.meeting = Some(Meeting { one, other });
+        one != other && one < COUNTED && other < COUNTED
     }
 }
 

@@ -2,7 +2,7 @@
 use crate::sections::Section;
 
 /// The words of sections that say what a call leaves.
-static RESULTS: [&str; 15] = [
+static RESULTS: [&str; 17] = [
     "status",
     "cause",
     "out",
@@ -11,6 +11,8 @@ static RESULTS: [&str; 15] = [
     "done",
     "lost",
     "fired",
+    "met",
+    "passed",
     "snapshots",
     "left",
     "gone",

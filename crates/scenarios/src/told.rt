@@ -8,13 +8,16 @@ use scenario_lines::{Page, number_of, word_of, words_behind};
 use std::alloc::Global;
 
 /// The parts that are told in one line, by their words.
-pub static LINES: [&str; 6] = ["status", "cause", "order", "done", "lost", "fired"];
+pub static LINES: [&str; 8] = [
+    "status", "cause", "order", "done", "lost", "fired", "met", "passed",
+];
 
 /// The parts that are told by a text, by their words.
 pub static TEXTS: [&str; 3] = ["out", "note", "snapshots"];
 
 /// Adds what a call tells of a part behind the part's word.
-pub fn add_line(alloc: Global, page: &mut Page, word: &str, ended: &Ended) {
+pub fn add_line(alloc: Global, page: &mut Page, word: &str, left: &Left) {
+    let ended = &left.ended;
     match word {
         "status" => page.add_numbers(&[u64::from(ended.status.number())]),
         "cause" => add_cause(alloc, page, ended),
@@ -22,6 +25,8 @@ pub fn add_line(alloc: Global, page: &mut Page, word: &str, ended: &Ended) {
         "done" => page.add_numbers(&ended.done),
         "lost" => add_entries(page, &ended.lost),
         "fired" => add_fired(page, &ended.fired),
+        "met" => left.gate.add_met(page),
+        "passed" => left.gate.add_passed(page),
         _ => {}
     }
 }

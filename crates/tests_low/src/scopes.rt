@@ -1,11 +1,14 @@
 //! Numbers before and after an update of a vertex with three neighbours.
 use gl_base::INF;
+use gl_outside::Gate;
+use graph_programs::gated::Gated;
 use graph_programs::prog_colours::Colours;
 use graph_programs::prog_cores::Cores;
 use graph_programs::prog_labels::{Components, Levels};
 use graph_programs::prog_paths::Paths;
 use seq_run::update_vertex;
 use std::io;
+use std::sync::atomic::{AtomicU64, Ordering};
 use update_api::{Direction, Link, Program, Scope, Woken};
 
 /// Prints what each program starts with, and what its updates leave.
@@ -15,6 +18,7 @@ pub fn print_scopes(rt: &impl Print) -> io::Result<()> {
     print_updates(rt, "paths from 7", &Paths { source: 7 }, &PATHS)?;
     print_updates(rt, "colours", &Colours, &COLOURS)?;
     print_updates(rt, "cores", &Cores, &CORES)?;
+    print_gated(rt)?;
     print_flat(rt)?;
     print_edges(rt)
 }
@@ -112,6 +116,38 @@ fn name_of(woken: Woken) -> &'static str {
         Woken::Ahead => "those ahead",
         Woken::Around => "all around",
     }
+}
+
+/// How often a gate was passed, and by which identifier last.
+#[derive(Drop)]
+struct Passes {
+    times: AtomicU64,
+    last: AtomicU64,
+}
+
+impl Gate for Passes {
+    fn pass(&self, id: u64) {
+        self.times.fetch_add(1, Ordering::SeqCst);
+        self.last.store(id, Ordering::SeqCst);
+    }
+}
+
+/// Prints what updates leave that pass a gate, and what the gate saw of them.
+fn print_gated(rt: &impl Print) -> io::Result<()> {
+    let gate = Passes {
+        times: AtomicU64::new(0),
+        last: AtomicU64::new(0),
+    };
+    let program = Gated {
+        program: Components,
+        gate: &gate,
+    };
+    print_updates(rt, "gated components", &program, &COMPONENTS)?;
+    println!(rt;
+        "gate: passed {} times, last by {}",
+        gate.times.load(Ordering::SeqCst),
+        gate.last.load(Ordering::SeqCst)
+    )
 }
 
 static FLAT: [Link; 2] = [

@@ -32,8 +32,11 @@ run_input-requires g c =
     let input = c.in_ok-input.input in
     let was = c.in_ok-input.ensures.answer.0 in (
       search (sendable, crosses) depth 40,
-      can-run c.args.asked input c.requires was.ready.doable was.directed was.ready.numbers (job-failures input.job.machines input.job.failures.items was.ready.failures) (few-failures input.job.machines input.job.failures.items was.ready.failures)
-          was.graph was.start (can-cut c.in_ok-input.input (g.F.Files.state c.args.files.now) was.ready.numbers.atoms.0 c.in_ok-input.ensures.cut),
+      (
+        search (sendable, crosses) depth 40,
+        can-run c.args.asked input c.requires was.ready.doable was.directed was.ready.numbers (job-failures input.job.machines input.job.failures.items was.ready.failures) (few-failures input.job.machines input.job.failures.items was.ready.failures)
+            was.graph was.start (can-cut c.in_ok-input.input (g.F.Files.state c.args.files.now) was.ready.numbers.atoms.0 c.in_ok-input.ensures.cut),
+      ),
     )
 
 pub returns-in-Ok-clause-answer : goal.returns-in-Ok-clause-answer
